@@ -1,0 +1,2 @@
+-- The definitions that the grammars are written in.
+pub mod Rule

@@ -1,0 +1,5 @@
+pub mod Four
+pub mod Groups
+pub mod Six
+pub mod Fits
+pub mod Examples

@@ -1,0 +1,154 @@
+-- Laws of cuts: how far a search reaches, what stands before and behind a cut, and that a joined text is cut where it was joined. Assumes nothing.
+use Prim.Native.Nat.{ℕ, zero, suc, _+_, _-_, _≤_, _<_}
+use mathlib.Core.Path.{_≡_, refl, sym, ap, _∙_}
+use mathlib.Core.List.{List, [], _∷_, _++_}
+use mathlib.Core.Bool.{Bool, true, false, cond, _&&_}
+use native.Mathlib.Omega.{arith}
+use lib.Dec.{eqb}
+use lib.ListN.{length, take, drop, length-take}
+use lib.Seq.{drop-append-add}
+use borrow.Author.Tests.{eq-eqb, ne-eqb, eqb-true}
+use Rattle.text.specs.Find.{before, startsPair, beforePair, throughLast, sucOr}
+use Rattle.text.specs.Word.{same, starts}
+use Rattle.text.proofs.Bools.{by-bool, clash, and-left, and-right}
+
+-- texts that are the same are equal, and the other way round
+pub same-eq : (s w : List ℕ) → same s w ≡ true → s ≡ w
+unfolding same
+same-eq [] [] e = refl
+same-eq [] (y ∷ w) e = clash (cc)
+same-eq (x ∷ s) [] e = clash (cc)
+same-eq (x ∷ s) (y ∷ w) e =
+    cc (eqb-true x y (and-left (eqb x y) (same s w) e), same-eq s w (and-right (eqb x y) (same s w) e))
+
+pub same-refl : (s : List ℕ) → same s s ≡ true
+unfolding same
+same-refl [] = refl
+same-refl (x ∷ s) = simp (eq-eqb x x refl, same-refl s)
+
+-- a text is at least as long as what it begins with
+pub starts-long : (w s : List ℕ) → starts w s ≡ true → length w ≤ length s
+starts-long w s e = omega (arith, length-take (length w) s, ap length (same-eq (take (length w) s) w e))
+
+-- the first b
+pub before-le : (b : ℕ) (s : List ℕ) → before b s ≤ length s
+unfolding before
+before-le b [] = omega arith
+before-le b (x ∷ s) =
+    by-bool (eqb x b) (λ e. simp e (omega arith)) (λ e. simp e (omega (arith, before-le b s)))
+
+-- as many bytes stand before the first b as were counted
+pub before-length : (b : ℕ) (s : List ℕ) → length (take (before b s) s) ≡ before b s
+before-length b s = omega (arith, length-take (before b s) s, before-le b s)
+
+-- what stands before the first b holds none
+pub before-take : (b : ℕ) (s : List ℕ) → before b (take (before b s) s) ≡ before b s
+unfolding before
+before-take b [] = refl
+before-take b (x ∷ s) = by-bool (eqb x b) (λ e. simp e) (λ e. simp (e, before-take b s))
+
+-- no b in x: the first of x and y is the first of y
+pub before-append : (b : ℕ) (x y : List ℕ) → before b x ≡ length x → before b (x ++ y) ≡ length x + before b y
+unfolding before
+before-append b [] y h = omega arith
+before-append b (a ∷ x) y h =
+    by-bool (eqb a b) (λ e. absurd (omega (arith, simp e at h)))
+    (λ e. simp e (omega (arith, before-append b x y (omega (arith, simp e at h)))))
+
+pub before-join : (b : ℕ) (x y : List ℕ) → before b x ≡ length x → before b (x ++ b ∷ y) ≡ length x
+unfolding before
+before-join b x y h = before-append b x (b ∷ y) h ∙ simp (eq-eqb b b refl) (omega arith)
+
+pub cut-first : (b : ℕ) (s : List ℕ) → before b s < length s → take (before b s) s ++ b ∷ drop (suc (before b s)) s ≡ s
+unfolding before
+cut-first b [] h = absurd (omega arith)
+cut-first b (x ∷ s) h =
+    by-bool (eqb x b) (λ e. simp e (ap (λ (a : ℕ). a ∷ s) (sym (eqb-true x b e))))
+    (λ e. simp e (ap (λ (l : List ℕ). x ∷ l) (cut-first b s (omega (arith, simp e at h)))))
+
+-- what stands behind a joint
+pub drop-join : (x : List ℕ) (b : ℕ) (y : List ℕ) (n : ℕ) → length x ≡ n → drop (n + 1) (x ++ b ∷ y) ≡ y
+drop-join x b y n h = rw (← h) (drop-append-add x (b ∷ y) 1)
+
+-- the last b
+pub sucOr-le : (k n : ℕ) (t : Bool) → k ≤ n → sucOr k (cond t 1 0) ≤ suc n
+sucOr-le zero n true h = omega arith
+sucOr-le zero n false h = omega arith
+sucOr-le (suc k) n t h = omega arith
+
+pub last-le : (b : ℕ) (s : List ℕ) → throughLast b s ≤ length s
+unfolding throughLast
+last-le b [] = omega arith
+last-le b (x ∷ s) = sucOr-le (throughLast b s) (length s) (eqb x b) (last-le b s)
+
+pub last-join : (b : ℕ) (x y : List ℕ) → throughLast b y ≡ 0 → throughLast b (x ++ b ∷ y) ≡ suc (length x)
+unfolding throughLast
+last-join b [] y h = simp (h, eq-eqb b b refl)
+last-join b (a ∷ x) y h = simp (last-join b x y h)
+
+pub last-cons : (b a : ℕ) (x : List ℕ) → throughLast b (a ∷ x) ≡ 0 → (eqb a b ≡ false) × (throughLast b x ≡ 0)
+unfolding throughLast
+last-cons b a x h = go (throughLast b x) (eqb a b) h
+  where
+    go : (k : ℕ) (t : Bool) → sucOr k (cond t 1 0) ≡ 0 → (t ≡ false) × (k ≡ 0)
+    go zero true h = absurd (omega arith)
+    go zero false h = (refl, refl)
+    go (suc k) t h = absurd (omega arith)
+
+-- no b at all, said by either search
+pub last-free : (b : ℕ) (x : List ℕ) → throughLast b x ≡ 0 → before b x ≡ length x
+unfolding before
+last-free b [] h = refl
+last-free b (a ∷ x) h = let p = last-cons b a x h in simp (p .0, last-free b x (p .1))
+
+pub cut-last : (b : ℕ) (s : List ℕ) (k : ℕ) → throughLast b s ≡ suc k → take k s ++ b ∷ drop (suc k) s ≡ s
+unfolding throughLast
+cut-last b [] k h = absurd (omega arith)
+cut-last b (x ∷ s) k h = go (throughLast b s) (eqb x b) k (eqb-true x b) (cut-last b s) h
+  where
+    go : (m : ℕ) (t : Bool) (k : ℕ) → (t ≡ true → x ≡ b) → ((j : ℕ) → m ≡ suc j → take j s ++ b ∷ drop (suc j) s ≡ s)
+        → sucOr m (cond t 1 0) ≡ suc k → take k (x ∷ s) ++ b ∷ drop (suc k) (x ∷ s) ≡ x ∷ s
+    go zero true zero f r h = simp (f refl)
+    go zero true (suc k) f r h = absurd (omega arith)
+    go zero false k f r h = absurd (omega arith)
+    go (suc m) t zero f r h = absurd (omega arith)
+    go (suc m) t (suc k) f r h = ap (λ (l : List ℕ). x ∷ l) (r k (omega arith))
+
+-- the first a with b straight behind it
+pub pair-le : (a b : ℕ) (s : List ℕ) → beforePair a b s ≤ length s
+unfolding beforePair
+pair-le a b [] = omega arith
+pair-le a b (x ∷ s) =
+    by-bool (startsPair a b (x ∷ s)) (λ e. simp e (omega arith)) (λ e. simp e (omega (arith, pair-le a b s)))
+
+pub cut-pair : (a b : ℕ) (s : List ℕ) → beforePair a b s < length s
+    → take (beforePair a b s) s ++ a ∷ b ∷ drop (suc (suc (beforePair a b s))) s ≡ s
+unfolding beforePair
+cut-pair a b [] h = absurd (omega arith)
+cut-pair a b (x ∷ []) h = absurd (omega arith)
+cut-pair a b (x ∷ y ∷ s) h =
+    by-bool (eqb x a && eqb y b)
+    (λ e. simp e (cc (eqb-true x a (and-left (eqb x a) (eqb y b) e), eqb-true y b (and-right (eqb x a) (eqb y b) e))))
+    (λ e. simp e (ap (λ (l : List ℕ). x ∷ l) (cut-pair a b (y ∷ s) (omega (arith, simp e at h)))))
+
+-- a pair that was found stands whole in s
+pub pair-whole : (a b : ℕ) (s : List ℕ) → beforePair a b s < length s → beforePair a b s + 2 ≤ length s
+unfolding beforePair
+pair-whole a b [] h = absurd (omega arith)
+pair-whole a b (x ∷ []) h = absurd (omega arith)
+pair-whole a b (x ∷ y ∷ s) h =
+    by-bool (eqb x a && eqb y b) (λ e. simp e (omega arith))
+    (λ e. simp e (omega (arith, pair-whole a b (y ∷ s) (omega (arith, simp e at h)))))
+
+pub pair-skip : (a b x : ℕ) (s : List ℕ) → (x ≡ a → ⊥) → beforePair a b (x ∷ s) ≡ suc (beforePair a b s)
+unfolding beforePair
+pair-skip a b x [] h = refl
+pair-skip a b x (y ∷ s) h = simp (ne-eqb x a h)
+
+-- a joint is a pair: the first is there or before it
+pub pair-join-le : (a b : ℕ) (x y : List ℕ) → beforePair a b (x ++ a ∷ b ∷ y) ≤ length x
+unfolding beforePair
+pair-join-le a b [] y = simp (eq-eqb a a refl, eq-eqb b b refl) (omega arith)
+pair-join-le a b (c ∷ x) y =
+    by-bool (startsPair a b (c ∷ (x ++ a ∷ b ∷ y))) (λ e. simp e (omega arith))
+    (λ e. simp e (omega (arith, pair-join-le a b x y)))

@@ -1,0 +1,5 @@
+pub mod Bools
+pub mod Left
+pub mod Laws
+pub mod Cuts
+pub mod Ascii

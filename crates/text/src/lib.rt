@@ -1,0 +1,135 @@
+// Texts as bytes: a byte or a mark is looked for, a text is compared with a word, and a part is taken at its place.
+ghost use mathlib.Core.Path.{_≡_};
+ghost use Prim.Native.Nat.{_<_};
+ghost use lib.ListN.{length, drop};
+ghost use Rattle.text.specs.Find.{before, beforePair, startsPair, throughLast};
+ghost use Rattle.text.specs.Word.{same, starts, endsIn};
+ghost use Rattle.text.specs.Place.{PartAt, bytesAt};
+
+// Where a part of a value lies in it: what a record holds in place of a text.
+pub struct Place {
+    pub start: usize,
+    pub len: usize,
+}
+
+// The bytes of `s` at a place: those that `s` has.
+pub fn part(s: &[u8], p: Place) -> &[u8]
+    ensures { λ r. ⌜ PartAt (s .entry) p r ⌝ }
+{
+    let n = s.len();
+    let start = p.start;
+    let len = p.len;
+    if n <= start {
+        return &s[n..];
+    }
+    if n - start < len {
+        return &s[start..];
+    }
+    let end = start + len;
+    &s[start..end]
+}
+
+// How many bytes stand before the first `b`: all of them where there is none.
+pub fn find(s: &[u8], b: u8) -> usize
+    ensures { λ r. ⌜ r ≡ before b (now (s .entry)) ⌝ }
+{
+    let mut i = 0;
+    while i < s.len() {
+        if s[i] == b {
+            return i;
+        }
+        i += 1;
+    }
+    i
+}
+
+// Whether `a` stands at `i`, and `b` straight behind it.
+fn is_pair_at(s: &[u8], i: usize, a: u8, b: u8) -> bool
+    requires { ⌜ i < length (now s) ⌝ }
+    ensures { λ r. ⌜ r ≡ startsPair a b (drop i (now (s .entry))) ⌝ }
+{
+    if s[i] != a {
+        return false;
+    }
+    let j = i + 1;
+    if s.len() <= j {
+        return false;
+    }
+    s[j] == b
+}
+
+// How many bytes stand before the first `a` that has `b` straight behind it: all of them where there is none.
+pub fn find_pair(s: &[u8], a: u8, b: u8) -> usize
+    ensures { λ r. ⌜ r ≡ beforePair a b (now (s .entry)) ⌝ }
+{
+    let mut i = 0;
+    while i < s.len() {
+        if is_pair_at(s, i, a, b) {
+            return i;
+        }
+        i += 1;
+    }
+    i
+}
+
+// How many bytes reach up to the last `b`, itself included: 0 where there is none.
+pub fn through_last(s: &[u8], b: u8) -> usize
+    ensures { λ r. ⌜ r ≡ throughLast b (now (s .entry)) ⌝ }
+{
+    let mut i = s.len();
+    while 0 < i {
+        let j = i - 1;
+        if s[j] == b {
+            return i;
+        }
+        i = j;
+    }
+    0
+}
+
+// Whether two texts are the same.
+pub fn is_word(s: &[u8], w: &[u8]) -> bool
+    ensures { λ r. ⌜ r ≡ same (now (s .entry)) (now (w .entry)) ⌝ }
+{
+    if s.len() != w.len() {
+        return false;
+    }
+    let mut i = 0;
+    while i < s.len() {
+        if s[i] != w[i] {
+            return false;
+        }
+        i += 1;
+    }
+    true
+}
+
+// Whether `s` begins with `w`.
+pub fn has_prefix(s: &[u8], w: &[u8]) -> bool
+    ensures { λ r. ⌜ r ≡ starts (now (w .entry)) (now (s .entry)) ⌝ }
+{
+    let n = w.len();
+    if s.len() < n {
+        return false;
+    }
+    is_word(&s[..n], w)
+}
+
+// Whether `b` is the last byte of `s`.
+pub fn ends_in(s: &[u8], b: u8) -> bool
+    ensures { λ r. ⌜ r ≡ endsIn b (now (s .entry)) ⌝ }
+{
+    let n = s.len();
+    if n == 0 {
+        return false;
+    }
+    let last = n - 1;
+    s[last] == b
+}
+
+// Whether two values have the same bytes at a place of each.
+pub fn equal_parts(v: &[u8], p: Place, w: &[u8], q: Place) -> bool
+    ensures { λ r. ⌜ r ≡ same (bytesAt p (now (v .entry))) (bytesAt q (now (w .entry))) ⌝ }
+{
+    is_word(part(v, p), part(w, q))
+}
