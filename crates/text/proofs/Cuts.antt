@@ -7,9 +7,9 @@ use native.Mathlib.Omega.{arith}
 use lib.Dec.{eqb}
 use lib.ListN.{length, take, drop, length-take}
 use lib.Seq.{drop-append-add}
-use borrow.Author.Tests.{eq-eqb, ne-eqb, eqb-true}
+use borrow.Author.Tests.{eq-eqb, ne-eqb, eqb-true, eqb-false}
 use Rattle.text.specs.Find.{before, startsPair, beforePair, throughLast, sucOr}
-use Rattle.text.specs.Word.{same, starts}
+use Rattle.text.specs.Word.{same, starts, endsIn}
 use Rattle.text.proofs.Bools.{by-bool, clash, and-left, and-right}
 
 -- texts that are the same are equal, and the other way round
@@ -101,6 +101,13 @@ unfolding before
 last-free b [] h = refl
 last-free b (a ∷ x) h = let p = last-cons b a x h in simp (p .0, last-free b x (p .1))
 
+pub free-last : (b : ℕ) (x : List ℕ) → before b x ≡ length x → throughLast b x ≡ 0
+unfolding before throughLast
+free-last b [] h = refl
+free-last b (a ∷ x) h =
+    by-bool (eqb a b) (λ e. absurd (omega (arith, simp e at h)))
+    (λ e. simp (free-last b x (omega (arith, simp e at h)), e))
+
 pub cut-last : (b : ℕ) (s : List ℕ) (k : ℕ) → throughLast b s ≡ suc k → take k s ++ b ∷ drop (suc k) s ≡ s
 unfolding throughLast
 cut-last b [] k h = absurd (omega arith)
@@ -145,6 +152,14 @@ unfolding beforePair
 pair-skip a b x [] h = refl
 pair-skip a b x (y ∷ s) h = simp (ne-eqb x a h)
 
+-- no a in x: the first pair is the joint
+pub pair-join : (a b : ℕ) (x y : List ℕ) → before a x ≡ length x → beforePair a b (x ++ a ∷ b ∷ y) ≡ length x
+unfolding before beforePair
+pair-join a b [] y h = simp (eq-eqb a a refl, eq-eqb b b refl)
+pair-join a b (c ∷ x) y h =
+    by-bool (eqb c a) (λ e. absurd (omega (arith, simp e at h)))
+    (λ e. pair-skip a b c (x ++ a ∷ b ∷ y) (eqb-false c a e) ∙ ap suc (pair-join a b x y (omega (arith, simp e at h))))
+
 -- a joint is a pair: the first is there or before it
 pub pair-join-le : (a b : ℕ) (x y : List ℕ) → beforePair a b (x ++ a ∷ b ∷ y) ≤ length x
 unfolding beforePair
@@ -152,3 +167,12 @@ pair-join-le a b [] y = simp (eq-eqb a a refl, eq-eqb b b refl) (omega arith)
 pair-join-le a b (c ∷ x) y =
     by-bool (startsPair a b (c ∷ (x ++ a ∷ b ∷ y))) (λ e. simp e (omega arith))
     (λ e. simp e (omega (arith, pair-join-le a b x y)))
+
+-- a text that ends in b is what stands before it, and b
+pub cut-end : (b : ℕ) (s : List ℕ) → endsIn b s ≡ true → take (length s - 1) s ++ b ∷ [] ≡ s
+unfolding endsIn
+cut-end b [] h = clash (cc)
+cut-end b (x ∷ []) h = cc (eqb-true x b h)
+cut-end b (x ∷ y ∷ s) h =
+    let e : length (x ∷ y ∷ s) - 1 ≡ suc (length (y ∷ s) - 1) = omega arith in
+    rw e (ap (λ (l : List ℕ). x ∷ l) (cut-end b (y ∷ s) h))

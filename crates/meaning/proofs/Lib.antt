@@ -1,0 +1,13 @@
+pub mod Told
+pub mod Plain
+pub mod Extension
+pub mod NtpHost
+pub mod Ntp
+pub mod Spelling
+pub mod Ptp
+pub mod Reference
+pub mod Direct
+pub mod Media
+pub mod Room
+pub mod Demand3
+pub mod Rows

@@ -1,0 +1,75 @@
+-- The rows hold. They are of bytes below 128 and short, so that length and form are settled by a law and only the rules are computed.
+-- Assumes nothing.
+use Prim.Native.Nat.{ℕ, _≤_}
+use mathlib.Core.Path.{_≡_, refl, _∙_}
+use mathlib.Core.List.{List, [], _∷_, map}
+use mathlib.Core.Bool.{Bool, true, _&&_}
+use lib.Dec.{leb}
+use lib.ListN.{length}
+use borrow.Author.Tests.{leb-true}
+use Rattle.text.specs.Find.{before, beforePair, throughLast}
+use Rattle.text.specs.Word.{same, endsIn}
+use Rattle.text.specs.Place.{bytesAt}
+use Rattle.text.specs.Example.{Example, Each}
+use Rattle.text.proofs.Ascii.{ascii}
+use Rattle.text.proofs.Bools.{and-left, and-right}
+use Rattle.abnf.specs.Rule.{nothing, range, _or_, _then_, times, upto}
+use Rattle.number.specs.Decimal.{allDigits, valueFrom, digitsOf, numberOf, digitsIn, decimal}
+use Rattle.number.specs.Hex.{hexDigit, hexCapital}
+use Rattle.eui64.specs.Eui64.{cutAtEach, highDigit, segmentOf, segmentsOf, eui64Of, segmentsText, eui64Text}
+use Rattle.utf8.specs.Utf8.{utf8Of}
+use Rattle.utf8.specs.declared.Utf8.the-variants.{Well}
+use Rattle.utf8.proofs.Text.{utf8-all-ascii}
+use Rattle.ipaddr.specs.Address.{hexdig, decOctet, ipv4address, h16, h16colon, doubleColon, ls32, ipv6address, ipAddress}
+use Rattle.meaning.specs.Answer.{extensionOf}
+use Rattle.meaning.specs.Domain.{bare, bareRead, bareText}
+use Rattle.meaning.specs.ReferenceClock.{portOf, addressOf, bracketOf, hostOf, ntpOf, versionOf, gmidOf, domainOf, serverOf, ptpOf, clockOf, referenceClockOf, asReferenceClockRead, readReferenceClock}
+use Rattle.meaning.specs.MediaClock.{denominatorOf, ratioOf, rateOf, offsetOf, directOf, streamOf, mediaClockOf, tagOf, idOf, taggedOf, sourceOf, mediaClockSourceOf, asMediaClockSourceRead, readMediaClockSource}
+use Rattle.meaning.specs.Meaning.{refMeaning, mediaMeaning}
+use Rattle.meaning.specs.Text.{refMeaningText, referenceClockText, sourceMeaningText, mediaClockSourceText}
+use Rattle.meaning.proofs.Told.{guarded-well}
+use Rattle.meaning.specs.Rows.{Given, ts-refclk, mediaclk, Said, refWritten, sourceWritten, said, edges, domains}
+
+abbrev short : List ℕ → Bool
+short s = leb (length s) 1024 && ascii s
+
+abbrev plain : Given → Bool
+plain (ts-refclk v) = short v
+plain (mediaclk v) = short v
+
+abbrev saidPlain : Given → Said
+saidPlain (ts-refclk v) = refWritten v (asReferenceClockRead (clockOf bare v))
+saidPlain (mediaclk v) = sourceWritten v (asMediaClockSourceRead (sourceOf v))
+
+module _ (v : List ℕ) (h : short v ≡ true) where
+  fits : length v ≤ 1024
+  fits = leb-true (length v) 1024 (and-left (leb (length v) 1024) (ascii v) h)
+
+  form : utf8Of v ≡ Well
+  form = utf8-all-ascii v (and-right (leb (length v) 1024) (ascii v) h)
+
+said-plain : (g : Given) → plain g ≡ true → said g ≡ saidPlain g
+unfolding readReferenceClock referenceClockOf readMediaClockSource mediaClockSourceOf
+said-plain (ts-refclk v) h = rw (guarded-well v (clockOf bare v) (fits v h) (form v h))
+said-plain (mediaclk v) h = rw (guarded-well v (sourceOf v) (fits v h) (form v h))
+
+abbrev allPlain : List (Example Given Said) → Bool
+allPlain [] = true
+allPlain (r ∷ rows) = plain (r .given) && allPlain rows
+
+each-plain : (rows : List (Example Given Said)) → allPlain rows ≡ true → Each saidPlain rows → Each said rows
+each-plain rows h e = go rows h ∙ e
+  where
+    go : (rows : List (Example Given Said)) → allPlain rows ≡ true
+        → map (λ (r : Example Given Said). said (r .given)) rows ≡ map (λ (r : Example Given Said). saidPlain (r .given)) rows
+    go [] h = refl
+    go (r ∷ rows) h =
+        rw (said-plain (r .given) (and-left (plain (r .given)) (allPlain rows) h), go rows (and-right (plain (r .given)) (allPlain rows) h))
+
+pub edges-hold : Each said edges
+unfolding clockOf ntpOf hostOf bracketOf addressOf portOf ptpOf versionOf serverOf gmidOf domainOf bareRead extensionOf sourceOf taggedOf idOf tagOf mediaClockOf streamOf directOf offsetOf rateOf ratioOf denominatorOf referenceClockText refMeaningText refMeaning bareText mediaClockSourceText sourceMeaningText mediaMeaning before beforePair throughLast same endsIn bytesAt numberOf digitsOf allDigits valueFrom decimal digitsIn hexDigit hexCapital eui64Of segmentsOf segmentOf highDigit cutAtEach eui64Text segmentsText ipAddress ipv6address ipv4address ls32 doubleColon h16colon h16 decOctet hexdig nothing range _or_ _then_ times upto
+edges-hold = each-plain edges refl refl
+
+pub domains-hold : Each said domains
+unfolding clockOf ptpOf versionOf serverOf gmidOf domainOf bareRead referenceClockText refMeaningText refMeaning bareText before same bytesAt numberOf digitsOf allDigits valueFrom decimal digitsIn hexDigit hexCapital eui64Of segmentsOf segmentOf highDigit cutAtEach eui64Text segmentsText
+domains-hold = each-plain domains refl refl

@@ -1,0 +1,1 @@
+// What each value means: definitions and theorems alone (specs/, proofs/).
