@@ -1,5 +1,5 @@
--- What a written EUI-64 is: 23 bytes with no colon among them, read back as the number. And what a number that was read tells of its text.
--- Assumes nothing.
+-- What a written EUI-64 is: 23 bytes with no colon among them, read back as the number. And what a number that was read tells of its text,
+-- and that a fault lies inside it. Assumes nothing.
 use Prim.Native.Nat.{ℕ, zero, suc, _+_, _-_, _*_, _^_, _/_, _%_, _≤_, _<_}
 use mathlib.Core.Path.{_≡_, refl, sym, ap, _∙_}
 use mathlib.Core.List.{List, [], _∷_, _++_, append-assoc, append-nil}
@@ -15,8 +15,11 @@ use Rattle.text.proofs.Bools.{by-bool, clash}
 use Rattle.text.proofs.Cuts.{before-append}
 use Rattle.number.specs.Hex.{hexDigit, hexCapital}
 use Rattle.number.proofs.Laws.{hex-decimal, hex-capital}
-use Rattle.eui64.specs.declared.Eui64Read.the-variants.{Id}
-use Rattle.eui64.specs.declared.BrokenRule.the-variants.{SegmentDigits}
+use Rattle.text.specs.Place.{place}
+use Rattle.eui64.specs.declared.Eui64Read.the-variants.{Id, Refused}
+use Rattle.eui64.specs.declared.Fault.{Fault}
+use Rattle.eui64.specs.declared.BrokenRule.{BrokenRule}
+use Rattle.eui64.specs.declared.BrokenRule.the-variants.{Length, SegmentLength, SegmentDigits}
 use Rattle.eui64.specs.declared.Segment.{Segment}
 use Rattle.eui64.specs.declared.Segment.the-variants.{Byte, NotHex}
 use Rattle.eui64.specs.Eui64.{refused, cutAtEach, highDigit, segmentOf, withByte, segmentsOf, eui64Of, segmentText, segmentsText, eui64Text}
@@ -195,3 +198,31 @@ eui-bound s id h =
     let r = segments-read 0 0 (cutAtEach 45 s) id (simp (eq-eqb (length s) 23 l) at h) in
     let n : length (cutAtEach 45 s) ≡ 8 = omega (arith, r .even, cut-weight s) in
     omega (arith, rw n at (r .bound))
+
+-- a fault of the segments lies inside their text
+module _ (f : Fault) where
+  fault-at : (broken : BrokenRule) (at n top : ℕ) → Refused f ≡ refused broken at n → at + n ≤ top → f .place .start + f .place .len ≤ top
+  fault-at broken at n top h k = let e : f ≡ record { rule = broken; place = place at n } = cc in rw e k
+
+  segments-fault : (at id : ℕ) (ps : List (List ℕ)) → Refused f ≡ segmentsOf at id ps → f .place .start + f .place .len < at + weight ps
+  unfolding segmentsOf weight
+  segments-fault at id [] h = clash (cc)
+  segments-fault at id (p ∷ ps) h =
+      by-bool (eqb (length p) 2)
+      (λ e.
+      go (segmentOf (getD p 0 0) (getD p 1 0)) (λ x. segments-fault (at + 3) (id * 256 + x) ps) (eqb-true (length p) 2 e) (simp e at h))
+      (λ e. omega (arith, fault-at SegmentLength at (length p) (at + length p) (simp e at h) (omega arith)))
+    where
+      go : (r : Segment) → ((x : ℕ) → Refused f ≡ segmentsOf (at + 3) (id * 256 + x) ps → f .place .start + f .place .len < at + 3 + weight ps)
+          → length p ≡ 2
+          → Refused f ≡ withByte r (λ x. segmentsOf (at + 3) (id * 256 + x) ps) (refused SegmentDigits at 2)
+          → f .place .start + f .place .len < at + weight (p ∷ ps)
+      go (Byte x) more l h = omega (arith, more x h)
+      go NotHex more l h = omega (arith, fault-at SegmentDigits at 2 (at + 2) h (omega arith))
+
+  pub eui-fault : (s : List ℕ) → Refused f ≡ eui64Of s → f .place .start + f .place .len ≤ length s
+  unfolding eui64Of
+  eui-fault s h =
+      by-bool (eqb (length s) 23)
+      (λ e. omega (arith, segments-fault 0 0 (cutAtEach 45 s) (simp e at h), cut-weight s))
+      (λ e. fault-at Length 0 (length s) (length s) (simp e at h) (omega arith))

@@ -30,6 +30,12 @@ same-refl (x ∷ s) = simp (eq-eqb x x refl, same-refl s)
 pub starts-long : (w s : List ℕ) → starts w s ≡ true → length w ≤ length s
 starts-long w s e = omega (arith, length-take (length w) s, ap length (same-eq (take (length w) s) w e))
 
+-- a text that has a last byte is not empty
+pub ends-some : (b : ℕ) (s : List ℕ) → endsIn b s ≡ true → 1 ≤ length s
+unfolding endsIn
+ends-some b [] e = clash (cc)
+ends-some b (x ∷ s) e = omega arith
+
 -- the first b
 pub before-le : (b : ℕ) (s : List ℕ) → before b s ≤ length s
 unfolding before
@@ -40,6 +46,10 @@ before-le b (x ∷ s) =
 -- as many bytes stand before the first b as were counted
 pub before-length : (b : ℕ) (s : List ℕ) → length (take (before b s) s) ≡ before b s
 before-length b s = omega (arith, length-take (before b s) s, before-le b s)
+
+-- the same of a count that was made
+pub cut-length : (b : ℕ) (s : List ℕ) (i : ℕ) → i ≡ before b s → i ≡ length (take i s)
+cut-length b s i e = rw e (sym (before-length b s))
 
 -- what stands before the first b holds none
 pub before-take : (b : ℕ) (s : List ℕ) → before b (take (before b s) s) ≡ before b s

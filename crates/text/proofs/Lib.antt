@@ -3,3 +3,4 @@ pub mod Left
 pub mod Laws
 pub mod Cuts
 pub mod Ascii
+pub mod Lines

@@ -1,4 +1,5 @@
--- A line ends inside the text, and every line takes a byte of it or its end. Assumes nothing.
+-- Going through the lines of a text of at most 65,536 bytes: a line ends inside the text, and every line takes a byte of it or its end.
+-- Assumes nothing.
 use Prim.Native.Nat.{ℕ, _+_, _-_, _≤_, _<_}
 use mathlib.Core.Path.{_≡_}
 use mathlib.Core.List.{List}
@@ -33,4 +34,4 @@ module _ {s : List ℕ} {lines at : ℕ} (l : Lines s lines at) (h : at < length
   pub line-next : Lines s (lines + 1) (at + len + 1)
   line-next = record { long = l .long; within = omega (arith, line-within); count = omega (arith, l .count) }
 
-pub ruleset laws = (lines-start, line-within, line-fits, line-end, line-next)
+pub ruleset lines-laws = (lines-start, line-within, line-fits, line-end, line-next)

@@ -1,0 +1,17 @@
+-- `mediaclk::id::read_tag` meets its contract: an empty tag is one law, any other the second.
+use Rattle.mediaclk.proofs.Laws.{laws}
+use borrow.Author.Needs.{needs}
+use Rattle.mediaclk.proofs.id.read_tag.Statement.{statement}
+use Rattle.mediaclk.proofs.id.read_tag.Tie as tie
+
+new-requires : tie.Need-new-requires
+new-requires c κs = search needs
+
+returns : tie.Need-returns
+returns c = search (needs, laws)
+
+returns-2 : tie.Need-returns-2
+returns-2 c = search (needs, laws)
+
+pub read-tag-spec : {M : Type 1} → statement M
+read-tag-spec = tie.close (tie.spec new-requires returns returns-2)

@@ -1,0 +1,58 @@
+-- The paper's answer for every case of an answer inside the reader.
+use Prim.Native.Nat.{ℕ}
+use Rattle.clock.specs.Records.{mediaClockSource}
+use Rattle.clock.specs.declared.Eui64.{Eui64}
+use Rattle.clock.specs.declared.OptId.{OptId}
+use Rattle.clock.specs.declared.OptRate.{OptRate}
+use Rattle.clock.specs.declared.Direct.{Direct}
+use Rattle.clock.specs.declared.MediaClockId.{MediaClockId}
+use Rattle.clock.specs.declared.MediaClockExt.{MediaClockExt}
+use Rattle.clock.specs.declared.MediaClock.{MediaClock}
+use Rattle.clock.specs.declared.MediaClockSource.{MediaClockSource}
+use Rattle.meaning.specs.Answer.{Answer, accepted, refused, _>>=_}
+use Rattle.mediaclk.specs.declared.direct.DenominatorRead.{DenominatorRead}
+use Rattle.mediaclk.specs.declared.direct.DenominatorRead.the-variants as denominator
+use Rattle.mediaclk.specs.declared.direct.RateRead.{RateRead}
+use Rattle.mediaclk.specs.declared.direct.RateRead.the-variants as rate
+use Rattle.mediaclk.specs.declared.direct.DirectRead.{DirectRead}
+use Rattle.mediaclk.specs.declared.direct.DirectRead.the-variants as direct
+use Rattle.mediaclk.specs.declared.id.IdRead.{IdRead}
+use Rattle.mediaclk.specs.declared.id.IdRead.the-variants as id
+use Rattle.mediaclk.specs.declared.stream.StreamRead.{StreamRead}
+use Rattle.mediaclk.specs.declared.stream.StreamRead.the-variants as stream
+use Rattle.mediaclk.specs.declared.extension.ExtensionRead.{ExtensionRead}
+use Rattle.mediaclk.specs.declared.extension.ExtensionRead.the-variants as extension
+use Rattle.mediaclk.specs.declared.MediaClockRead.{MediaClockRead}
+use Rattle.mediaclk.specs.declared.MediaClockRead.the-variants as clock
+
+abbrev pub denominatorAnswer : DenominatorRead → Answer ℕ
+denominatorAnswer (denominator.Accepted d) = accepted d
+denominatorAnswer (denominator.Refused r) = refused r
+
+abbrev pub rateAnswer : RateRead → Answer OptRate
+rateAnswer (rate.Accepted q) = accepted q
+rateAnswer (rate.Refused r) = refused r
+
+abbrev pub directAnswer : DirectRead → Answer Direct
+directAnswer (direct.Accepted d) = accepted d
+directAnswer (direct.Refused r) = refused r
+
+abbrev pub idAnswer : IdRead → Answer MediaClockId
+idAnswer (id.Accepted d) = accepted d
+idAnswer (id.Refused r) = refused r
+
+abbrev pub streamAnswer : StreamRead → Answer Eui64
+streamAnswer (stream.Accepted g) = accepted g
+streamAnswer (stream.Refused r) = refused r
+
+abbrev pub extensionAnswer : ExtensionRead → Answer MediaClockExt
+extensionAnswer (extension.Accepted e) = accepted e
+extensionAnswer (extension.Refused r) = refused r
+
+abbrev pub mediaClockAnswer : MediaClockRead → Answer MediaClock
+mediaClockAnswer (clock.Accepted c) = accepted c
+mediaClockAnswer (clock.Refused r) = refused r
+
+-- the source of an id and the clock that is read behind it
+abbrev pub withClock : OptId → Answer MediaClock → Answer MediaClockSource
+withClock i a = a >>= λ c. accepted (mediaClockSource i c)

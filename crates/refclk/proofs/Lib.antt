@@ -1,0 +1,3 @@
+pub mod NtpLaws
+pub mod PtpLaws
+pub mod Laws
