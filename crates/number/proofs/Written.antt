@@ -7,7 +7,7 @@ use native.Mathlib.Nat.{pow-suc, pow-succ', mul-le-mul-right, mul-assoc}
 use native.Mathlib.Omega.{arith}
 use lib.Dec.{leb, eqb, ltb}
 use lib.ListN.{length, length-append}
-use borrow.Author.Tests.{ne-eqb, eqb-false, leb-true, leb-false, le-leb, lt-ltb, ltb-true, ltb-false}
+use borrow.Author.Tests.{ne-eqb, eqb-false, leb-true, leb-false, le-leb, lt-ltb, le-ltb, ltb-true, ltb-false}
 use Rattle.text.specs.Find.{throughLast}
 use Rattle.text.proofs.Ascii.{ascii, ascii-cons}
 use Rattle.text.proofs.Bools.{by-bool, clash, and-left, and-right}
@@ -131,6 +131,25 @@ value-bound v (b ∷ s) h =
 digits-step : (k n : ℕ) → digitsIn (suc k) n ≡ cond (ltb n 10) [] (digitsIn k (n / 10)) ++ (48 + n % 10) ∷ []
 unfolding digitsIn
 digits-step k n = refl
+
+-- one more digit allowed changes nothing where there were enough
+digits-enough : (k n : ℕ) → n < 10 ^ suc k → digitsIn (suc k) n ≡ digitsIn (suc (suc k)) n
+unfolding digitsIn
+digits-enough zero n h =
+    by-bool (ltb n 10) (λ e. simp e) (λ e. absurd (omega (arith, ltb-false n 10 e)))
+digits-enough (suc k) n h =
+    ap (λ (s : List ℕ). cond (ltb n 10) [] s ++ (48 + n % 10) ∷ []) (digits-enough k (n / 10) (omega (arith, rw pow-suc at h)))
+
+-- one digit, or those of n / 10 and then the last
+pub decimal-one : (n : ℕ) → n < 10 → decimal n ≡ (48 + n) ∷ []
+unfolding decimal
+decimal-one n h = let e : n % 10 ≡ n = omega arith in digits-step 19 n ∙ simp (lt-ltb n 10 h, e)
+
+pub decimal-more : (n : ℕ) → 10 ≤ n → n < 2 ^ 64 → decimal n ≡ decimal (n / 10) ++ (48 + n % 10) ∷ []
+unfolding decimal
+decimal-more n h w =
+    digits-step 19 n
+    ∙ simp (le-ltb n 10 h) (ap (λ (s : List ℕ). s ++ (48 + n % 10) ∷ []) (digits-enough 18 (n / 10) (omega arith)))
 
 length-in : (k m n : ℕ) → m ≤ k → n < 10 ^ suc m → length (digitsIn (suc k) n) ≤ suc m
 length-in k zero n l h = rw (digits-step k n, lt-ltb n 10 (omega arith)) (omega arith)

@@ -1,5 +1,6 @@
 // Reads the lines of standard input, of its first 65,536 bytes, and prints what the value of each clock line reads as: the record with its
-// places as START+LEN, or the refusal's number, start and length. Other lines print `--`. The last line has the counts.
+// places as START+LEN and the text that it is written as, or the refusal's number, start and length. Other lines print `--`. The last line has
+// the counts.
 ghost use Prim.Native.Nat.{_≤_};
 ghost use lib.ListN.{length};
 use clock::Direct;
@@ -22,6 +23,7 @@ use clock::Rate;
 use clock::ReferenceClock;
 use clock::ReferenceClockRead;
 use clock::Refusal;
+use clock::Wrote;
 use libc::STDIN_FILENO;
 use libc::STDOUT_FILENO;
 use text::Place;
@@ -211,10 +213,24 @@ fn say_media_clock_source(source: MediaClockSource) {
     }
 }
 
+fn say_text(room: &[u8], wrote: Wrote) {
+    match wrote {
+        Wrote::Length(len) => {
+            say(b" -> ");
+            say(text::part(room, Place { start: 0, len }))
+        }
+        Wrote::Refused(_) => say(b" -> no"),
+    }
+}
+
 fn say_ts_refclk(value: &[u8]) -> bool {
     match refclk::read_reference_clock(value) {
         ReferenceClockRead::Accepted(clock) => {
             say_reference_clock(clock);
+            // long enough for the text of any accepted value
+            let mut room = [0u8; 1026];
+            let wrote = writing::write_reference_clock(clock, value, &mut room);
+            say_text(&room, wrote);
             true
         }
         ReferenceClockRead::Refused(r) => {
@@ -228,6 +244,9 @@ fn say_mediaclk(value: &[u8]) -> bool {
     match mediaclk::read_media_clock_source(value) {
         MediaClockSourceRead::Accepted(source) => {
             say_media_clock_source(source);
+            let mut room = [0u8; 1026];
+            let wrote = writing::write_media_clock_source(source, value, &mut room);
+            say_text(&room, wrote);
             true
         }
         MediaClockSourceRead::Refused(r) => {

@@ -5,9 +5,11 @@ use mathlib.Core.List.{List, [], _∷_, _++_}
 use mathlib.Core.Bool.{Bool, true, false, cond, _&&_}
 use native.Mathlib.Omega.{arith}
 use lib.Dec.{eqb}
-use lib.ListN.{length, take, drop, length-take}
+use lib.ListN.{length, take, drop, length-take, length-drop}
 use lib.Seq.{drop-append-add}
 use borrow.Author.Tests.{eq-eqb, ne-eqb, eqb-true, eqb-false}
+use Rattle.text.specs.declared.Place.{Place}
+use Rattle.text.specs.Place.{bytesAt}
 use Rattle.text.specs.Find.{before, startsPair, beforePair, throughLast, sucOr}
 use Rattle.text.specs.Word.{same, starts, endsIn}
 use Rattle.text.proofs.Bools.{by-bool, clash, and-left, and-right}
@@ -186,3 +188,8 @@ cut-end b (x ∷ []) h = cc (eqb-true x b h)
 cut-end b (x ∷ y ∷ s) h =
     let e : length (x ∷ y ∷ s) - 1 ≡ suc (length (y ∷ s) - 1) = omega arith in
     rw e (ap (λ (l : List ℕ). x ∷ l) (cut-end b (y ∷ s) h))
+
+-- the part at a place is no longer than the whole
+pub bytes-short : (p : Place) (s : List ℕ) → length (bytesAt p s) ≤ length s
+unfolding bytesAt
+bytes-short p s = simp (length-take, length-drop) (omega arith)

@@ -1,0 +1,3 @@
+-- The definition that this crate's contracts cite, and examples of it.
+pub mod Put
+pub mod Examples

@@ -1,0 +1,114 @@
+// Texts put into lent room, each from a place on, with the place behind it as the answer. A byte whose place lies behind the room's end is
+// counted and not stored, so a text is measured by putting it into no room. Each function asks that its places stay below 65,536, so that
+// no place overflows.
+ghost use mathlib.Core.Path.{_≡_};
+ghost use mathlib.Core.List.{_∷_, []};
+ghost use Prim.Native.Nat.{_+_, _≤_, _<_};
+ghost use lib.ListN.{length};
+ghost use Rattle.text.specs.Place.{bytesAt};
+ghost use Rattle.number.specs.Decimal.{decimal};
+ghost use Rattle.number.specs.Hex.{hexCapital};
+ghost use Rattle.eui64.specs.Eui64.{segmentText, segmentsText, eui64Text};
+ghost use Rattle.room.specs.Put.{Put};
+use text::Place;
+
+pub fn put_byte(room: &mut [u8], at: usize, b: u8) -> usize
+    requires { ⌜ at + 1 ≤ 65536 ⌝ }
+    ensures { λ r. ⌜ Put 1 (now (room .entry)) at (b ∷ []) r (now (room .exit)) ⌝ }
+{
+    if room.len() <= at {
+        return at + 1;
+    }
+    room[at] = b;
+    at + 1
+}
+
+pub fn put_bytes(room: &mut [u8], at: usize, src: &[u8]) -> usize
+    requires { ⌜ at + length (now src) ≤ 65536 ⌝ }
+    ensures { λ r. ⌜ Put (length (now (src .entry))) (now (room .entry)) at (now (src .entry)) r (now (room .exit)) ⌝ }
+{
+    let end = at + src.len();
+    let mut i = 0;
+    while i < src.len() {
+        let to = at + i;
+        // from here on nothing fits
+        if room.len() <= to {
+            return end;
+        }
+        room[to] = src[i];
+        i += 1;
+    }
+    end
+}
+
+// The part of a value at a place.
+pub fn put_part(room: &mut [u8], at: usize, value: &[u8], p: Place) -> usize
+    requires { ⌜ at + length (now value) ≤ 65536 ⌝ }
+    ensures { λ r. ⌜ Put (length (now (value .entry))) (now (room .entry)) at (bytesAt p (now (value .entry))) r (now (room .exit)) ⌝ }
+{
+    put_bytes(room, at, text::part(value, p))
+}
+
+// A decimal number: its last digits are made first, and stand at the end of `digits` until all are known.
+pub fn put_decimal(room: &mut [u8], at: usize, n: u32) -> usize
+    requires { ⌜ at + 10 ≤ 65536 ⌝ }
+    ensures { λ r. ⌜ Put 10 (now (room .entry)) at (decimal n) r (now (room .exit)) ⌝ }
+{
+    let mut digits = [0u8; 10];
+    let mut first: usize = 10;
+    let mut left = n;
+    while 10 <= left {
+        first -= 1;
+        digits[first] = b'0' + (left % 10) as u8;
+        left = left / 10;
+    }
+    let to = put_byte(room, at, b'0' + left as u8);
+    put_bytes(room, to, &digits[first..])
+}
+
+// The digit of base 16 that has the value `d`, a letter as a capital.
+fn hex_capital(d: u8) -> u8
+    requires { ⌜ d < 16 ⌝ }
+    ensures { λ r. ⌜ r ≡ hexCapital d ⌝ }
+{
+    if d < 10 {
+        return b'0' + d;
+    }
+    b'A' + (d - 10)
+}
+
+// One segment of an EUI-64; below it two, four, and all eight.
+fn put_segment(room: &mut [u8], at: usize, b: u8) -> usize
+    requires { ⌜ at + 2 ≤ 65536 ⌝ }
+    ensures { λ r. ⌜ Put 2 (now (room .entry)) at (segmentText b) r (now (room .exit)) ⌝ }
+{
+    let to = put_byte(room, at, hex_capital(b / 16));
+    put_byte(room, to, hex_capital(b % 16))
+}
+
+fn put_two_segments(room: &mut [u8], at: usize, n: u16) -> usize
+    requires { ⌜ at + 5 ≤ 65536 ⌝ }
+    ensures { λ r. ⌜ Put 5 (now (room .entry)) at (segmentsText 1 n) r (now (room .exit)) ⌝ }
+{
+    let dash = put_segment(room, at, (n / 256) as u8);
+    let to = put_byte(room, dash, b'-');
+    put_segment(room, to, (n % 256) as u8)
+}
+
+fn put_four_segments(room: &mut [u8], at: usize, n: u32) -> usize
+    requires { ⌜ at + 11 ≤ 65536 ⌝ }
+    ensures { λ r. ⌜ Put 11 (now (room .entry)) at (segmentsText 3 n) r (now (room .exit)) ⌝ }
+{
+    let dash = put_two_segments(room, at, (n / 65536) as u16);
+    let to = put_byte(room, dash, b'-');
+    put_two_segments(room, to, (n % 65536) as u16)
+}
+
+pub fn put_eui64(room: &mut [u8], at: usize, id: u64) -> usize
+    requires { ⌜ at + 23 ≤ 65536 ⌝ }
+    ensures { λ r. ⌜ Put 23 (now (room .entry)) at (eui64Text id) r (now (room .exit)) ⌝ }
+{
+    let dash = put_four_segments(room, at, (id / 4294967296) as u32);
+    let to = put_byte(room, dash, b'-');
+    put_four_segments(room, to, (id % 4294967296) as u32)
+}

@@ -1,0 +1,65 @@
+// The two writers: the text of a record, over the value that its places point into, is put into lent room. A value over 1,024 bytes is refused,
+// then a place that lies outside the value, then a room that is too short; the room is not touched where the answer is a refusal.
+mod media;
+mod parts;
+mod reference;
+
+ghost use Rattle.meaning.specs.Text.{referenceClockText, mediaClockSourceText};
+ghost use Rattle.meaning.specs.Inside.{referenceClockInside, mediaClockSourceInside};
+ghost use Rattle.writing.specs.Writes.{Writes};
+use clock::MediaClockSource;
+use clock::ReferenceClock;
+use clock::Refusal;
+use clock::WriteRefusal;
+use clock::Wrote;
+
+// How many bytes a value may have.
+const MOST_BYTES: usize = 1024;
+
+pub fn write_reference_clock(clock: ReferenceClock, value: &[u8], room: &mut [u8]) -> Wrote
+    ensures { λ r. ⌜ Writes (now (value .entry)) (referenceClockInside (now (value .entry)) clock) (referenceClockText (now (value .entry)) clock) (now (room .entry)) r (now (room .exit)) ⌝ }
+{
+    let n = value.len();
+    if MOST_BYTES < n {
+        return Wrote::Refused(WriteRefusal::Value(Refusal::new(1, MOST_BYTES, n - MOST_BYTES)));
+    }
+    if !reference::is_clock_inside(value, clock) {
+        return Wrote::Refused(WriteRefusal::Outside);
+    }
+    // a room that is long enough for any record over this value needs no measuring
+    let most = 2 * n + 55;
+    if most <= room.len() {
+        let written = reference::put_clock(room, 0, value, clock);
+        return Wrote::Length(written);
+    }
+    let needed = reference::measure(value, clock);
+    if room.len() < needed {
+        return Wrote::Refused(WriteRefusal::Room(needed));
+    }
+    reference::put_clock(room, 0, value, clock);
+    Wrote::Length(needed)
+}
+
+pub fn write_media_clock_source(source: MediaClockSource, value: &[u8], room: &mut [u8]) -> Wrote
+    ensures { λ r. ⌜ Writes (now (value .entry)) (mediaClockSourceInside (now (value .entry)) source) (mediaClockSourceText (now (value .entry)) source) (now (room .entry)) r (now (room .exit)) ⌝ }
+{
+    let n = value.len();
+    if MOST_BYTES < n {
+        return Wrote::Refused(WriteRefusal::Value(Refusal::new(1, MOST_BYTES, n - MOST_BYTES)));
+    }
+    if !media::is_source_inside(value, source) {
+        return Wrote::Refused(WriteRefusal::Outside);
+    }
+    // a room that is long enough for any record over this value needs no measuring
+    let most = 3 * n + 52;
+    if most <= room.len() {
+        let written = media::put_source(room, 0, value, source);
+        return Wrote::Length(written);
+    }
+    let needed = media::measure(value, source);
+    if room.len() < needed {
+        return Wrote::Refused(WriteRefusal::Room(needed));
+    }
+    media::put_source(room, 0, value, source);
+    Wrote::Length(needed)
+}
