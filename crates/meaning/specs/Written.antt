@@ -2,6 +2,7 @@
 use Prim.Native.Nat.{ℕ, _-_}
 use mathlib.Core.List.{List, [], _++_}
 use mathlib.Core.Bool.{Bool, cond, not}
+use mathlib.Core.Option.{Option, none, some}
 use lib.Dec.{ltb}
 use lib.ListN.{length, take, drop}
 use Rattle.clock.specs.Refusal.{refusal}
@@ -19,6 +20,15 @@ abbrev pub refusalNumber : WriteRefusal → ℕ
 refusalNumber (refused.Value r) = r .number
 refusalNumber refused.Outside = 23
 refusalNumber (refused.Room n) = 24
+
+-- the number of an answer: none where the text was written
+abbrev pub wroteNumber : Wrote → Option ℕ
+wroteNumber (wrote.Length n) = none
+wroteNumber (wrote.Refused r) = some (refusalNumber r)
+
+-- the number that is owed
+unfoldable pub owedNumber : List ℕ → Bool → List ℕ → ℕ → Option ℕ
+owedNumber v inside t n = cond (ltb 1024 (length v)) (some 1) (cond (not inside) (some 23) (cond (ltb n (length t)) (some 24) none))
 
 -- writing the text t of a record over the value v into a room of n bytes: a value over 1,024 bytes is refused, then a place that reaches
 -- outside the value, then a room that is too short

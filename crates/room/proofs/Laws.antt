@@ -114,18 +114,18 @@ module _ (v : Lent) (p : Place) (part : Lent) (is : PartAt v p part) (at : ℕ) 
       → Put (length (v .now)) l at (bytesAt p (v .now)) next m
   part-put l next m q = rw (is .bytes) at (put-wider q short)
 
--- `put_decimal`: the digits of n are those of what is left, and those that stand from `first` on
+-- `put_digits`: the digits of n are those of what is left, and those that stand from `first` on
 pub record Spelled (n : ℕ) (digits : List ℕ) (first left : ℕ) : Type 0 where
-  pub size : length digits ≡ 10
-  pub within : first ≤ 10
-  pub small : left < 4294967296
-  pub all : length (decimal n) ≤ 10
+  pub size : length digits ≡ 20
+  pub within : first ≤ 20
+  pub small : left < 2 ^ 64
+  pub all : length (decimal n) ≤ 20
   pub enough : length (decimal left) ≤ first
   pub so-far : decimal n ≡ decimal left ++ drop first digits
 
-pub spelled-start : (n : ℕ) (digits : List ℕ) → length digits ≡ 10 → n < 4294967296 → Spelled n digits 10 n
+pub spelled-start : (n : ℕ) (digits : List ℕ) → length digits ≡ 20 → n < 2 ^ 64 → Spelled n digits 20 n
 spelled-start n digits e h =
-    let f : length (decimal n) ≤ 10 = decimal-length 9 n (omega arith) (omega arith) in
+    let f : length (decimal n) ≤ 20 = decimal-length 19 n (omega arith) (omega arith) in
     record {
       size = e;
       within = omega arith;
@@ -169,20 +169,45 @@ module _ {n : ℕ} {digits : List ℕ} {first left : ℕ} (p : Spelled n digits 
         }
 
   module _ (h : left < 10) where
-    spelled : decimal n ≡ (48 + left) ∷ take (10 - first) (drop first digits)
+    spelled : decimal n ≡ (48 + left) ∷ take (20 - first) (drop first digits)
     spelled = p .so-far ∙ simp (decimal-one left h) (ap (λ (s : List ℕ). (48 + left) ∷ s) (sym (rw (p .size) at (rest-is first digits))))
 
-    few : length (take (10 - first) (drop first digits)) + 1 ≤ 10
-    few = omega (arith, ap length spelled, p .all)
+    few : length (take (20 - first) (drop first digits)) + 1 ≡ length (decimal n)
+    few = omega (arith, ap length spelled)
+
+    pub spelled-byte : (at : ℕ) → at + length (decimal n) ≤ 65536 → at + 1 ≤ 65536
+    spelled-byte at k = omega (arith, few)
 
     module _ {at next : ℕ} {l m : List ℕ} (q : Put 1 l at ((48 + left) ∷ []) next m) where
-      pub spelled-asks : at + 10 ≤ 65536 → next + length (take (10 - first) (drop first digits)) ≤ 65536
+      pub spelled-asks : at + length (decimal n) ≤ 65536 → next + length (take (20 - first) (drop first digits)) ≤ 65536
       spelled-asks k = omega (arith, q .place, few)
 
       pub spelled-end : {last : ℕ} {r : List ℕ}
-          → Put (length (take (10 - first) (drop first digits))) m next (take (10 - first) (drop first digits)) last r
-          → Put 10 l at (decimal n) last r
+          → Put (length (take (20 - first) (drop first digits))) m next (take (20 - first) (drop first digits)) last r
+          → Put (length (decimal n)) l at (decimal n) last r
       spelled-end t = rw spelled (put-wider (put-then q t) (omega (arith, few)))
+
+-- `put_decimal` and `put_decimal_u64`
+module _ (n : ℕ) where
+  pub ten-digits : n < 2 ^ 32 → length (decimal n) ≤ 10
+  ten-digits h = decimal-length 9 n (omega arith) (omega arith)
+
+  pub twenty-digits : n < 2 ^ 64 → length (decimal n) ≤ 20
+  twenty-digits h = decimal-length 19 n (omega arith) (omega arith)
+
+  module _ (at : ℕ) where
+    pub ten-asks : n < 2 ^ 32 → at + 10 ≤ 65536 → at + length (decimal n) ≤ 65536
+    ten-asks h k = omega (arith, ten-digits h)
+
+    pub twenty-asks : n < 2 ^ 64 → at + 20 ≤ 65536 → at + length (decimal n) ≤ 65536
+    twenty-asks h k = omega (arith, twenty-digits h)
+
+    module _ {next : ℕ} {l m : List ℕ} (p : Put (length (decimal n)) l at (decimal n) next m) where
+      pub ten-put : n < 2 ^ 32 → Put 10 l at (decimal n) next m
+      ten-put h = put-wider p (ten-digits h)
+
+      pub twenty-put : n < 2 ^ 64 → Put 20 l at (decimal n) next m
+      twenty-put h = put-wider p (twenty-digits h)
 
 -- `hex_capital`
 pub capital-digit : (d : ℕ) → d < 10 → 48 + d ≡ hexCapital d
@@ -268,8 +293,13 @@ pub ruleset laws = (
   spelled-start,
   spelled-first,
   spelled-next,
+  spelled-byte,
   spelled-asks,
   spelled-end,
+  ten-asks,
+  twenty-asks,
+  ten-put,
+  twenty-put,
   capital-digit,
   capital-letter,
   segment-put,

@@ -49,13 +49,13 @@ pub fn put_part(room: &mut [u8], at: usize, value: &[u8], p: Place) -> usize
     put_bytes(room, at, text::part(value, p))
 }
 
-// A decimal number: its last digits are made first, and stand at the end of `digits` until all are known.
-pub fn put_decimal(room: &mut [u8], at: usize, n: u32) -> usize
-    requires { ⌜ at + 10 ≤ 65536 ⌝ }
-    ensures { λ r. ⌜ Put 10 (now (room .entry)) at (decimal n) r (now (room .exit)) ⌝ }
+// The digits of a number: the last are made first, and stand at the end of `digits` until all are known.
+fn put_digits(room: &mut [u8], at: usize, n: u64) -> usize
+    requires { ⌜ at + length (decimal n) ≤ 65536 ⌝ }
+    ensures { λ r. ⌜ Put (length (decimal n)) (now (room .entry)) at (decimal n) r (now (room .exit)) ⌝ }
 {
-    let mut digits = [0u8; 10];
-    let mut first: usize = 10;
+    let mut digits = [0u8; 20];
+    let mut first: usize = 20;
     let mut left = n;
     while 10 <= left {
         first -= 1;
@@ -64,6 +64,20 @@ pub fn put_decimal(room: &mut [u8], at: usize, n: u32) -> usize
     }
     let to = put_byte(room, at, b'0' + left as u8);
     put_bytes(room, to, &digits[first..])
+}
+
+pub fn put_decimal(room: &mut [u8], at: usize, n: u32) -> usize
+    requires { ⌜ at + 10 ≤ 65536 ⌝ }
+    ensures { λ r. ⌜ Put 10 (now (room .entry)) at (decimal n) r (now (room .exit)) ⌝ }
+{
+    put_digits(room, at, n as u64)
+}
+
+pub fn put_decimal_u64(room: &mut [u8], at: usize, n: u64) -> usize
+    requires { ⌜ at + 20 ≤ 65536 ⌝ }
+    ensures { λ r. ⌜ Put 20 (now (room .entry)) at (decimal n) r (now (room .exit)) ⌝ }
+{
+    put_digits(room, at, n)
 }
 
 // The digit of base 16 that has the value `d`, a letter as a capital.

@@ -31,6 +31,35 @@ module _ (b : ℕ) {s : List ℕ} {i : ℕ} (p : Passed (before b) s i) where
   unfolding before
   find-end h = passed-all p (ap (before b) (none-left s i h))
 
+-- `pass_by_fours`
+pub fours-passed : (b : ℕ) (s : List ℕ) (i : ℕ) → (i ≤ length s) × (before b s ≡ i + before b (drop i s)) → Passed (before b) s i
+fours-passed b s i (h, e) = record { within = h; so-far = e }
+
+module _ (b : ℕ) {s : List ℕ} {i : ℕ} (p : Passed (before b) s i) where
+  module _ (h : 4 ≤ length s - i) (e : getD s i 0 ≡ b → ⊥) where
+    one : Passed (before b) s (i + 1)
+    one = find-next b p (omega arith) e
+
+    pub fours-one : before b s ≡ i + 1 + before b (drop (i + 1) s)
+    fours-one = one .so-far
+
+    module _ (f : getD s (i + 1) 0 ≡ b → ⊥) where
+      two : Passed (before b) s (i + 2)
+      two = let k : i + 1 + 1 ≡ i + 2 = omega arith in rw k at (find-next b one (omega arith) f)
+
+      pub fours-two : before b s ≡ i + 2 + before b (drop (i + 2) s)
+      fours-two = two .so-far
+
+      module _ (g : getD s (i + 2) 0 ≡ b → ⊥) where
+        three : Passed (before b) s (i + 3)
+        three = let k : i + 2 + 1 ≡ i + 3 = omega arith in rw k at (find-next b two (omega arith) g)
+
+        pub fours-three : before b s ≡ i + 3 + before b (drop (i + 3) s)
+        fours-three = three .so-far
+
+        pub fours-all : (getD s (i + 3) 0 ≡ b → ⊥) → Passed (before b) s (i + 4)
+        fours-all k = let j : i + 3 + 1 ≡ i + 4 = omega arith in rw j at (find-next b three (omega arith) k)
+
 -- `is_pair_at`
 not-first : (a b x : ℕ) (s : List ℕ) → (x ≡ a → ⊥) → startsPair a b (x ∷ s) ≡ false
 not-first a b x [] e = refl
@@ -194,6 +223,11 @@ pub ruleset laws = (
   find-here,
   find-next,
   find-end,
+  fours-passed,
+  fours-one,
+  fours-two,
+  fours-three,
+  fours-all,
   pair-first,
   pair-short,
   pair-second,

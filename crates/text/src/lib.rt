@@ -1,6 +1,6 @@
 // Texts as bytes: a byte or a mark is looked for, a text is compared with a word, and a part is taken at its place.
 ghost use mathlib.Core.Path.{_≡_};
-ghost use Prim.Native.Nat.{_<_};
+ghost use Prim.Native.Nat.{_+_, _≤_, _<_};
 ghost use lib.ListN.{length, drop};
 ghost use Rattle.text.specs.Find.{before, beforePair, startsPair, throughLast};
 ghost use Rattle.text.specs.Word.{same, starts, endsIn};
@@ -29,11 +29,34 @@ pub fn part(s: &[u8], p: Place) -> &[u8]
     &s[start..end]
 }
 
+// Passes bytes that are not `b`, four a turn, and stops at the first `b` or where fewer than four are left.
+fn pass_by_fours(s: &[u8], b: u8) -> usize
+    ensures { λ r. ⌜ (r ≤ length (now (s .entry))) × (before b (now (s .entry)) ≡ r + before b (drop r (now (s .entry)))) ⌝ }
+{
+    let mut i = 0;
+    while 4 <= s.len() - i {
+        if s[i] == b {
+            return i;
+        }
+        if s[i + 1] == b {
+            return i + 1;
+        }
+        if s[i + 2] == b {
+            return i + 2;
+        }
+        if s[i + 3] == b {
+            return i + 3;
+        }
+        i += 4;
+    }
+    i
+}
+
 // How many bytes stand before the first `b`: all of them where there is none.
 pub fn find(s: &[u8], b: u8) -> usize
     ensures { λ r. ⌜ r ≡ before b (now (s .entry)) ⌝ }
 {
-    let mut i = 0;
+    let mut i = pass_by_fours(s, b);
     while i < s.len() {
         if s[i] == b {
             return i;

@@ -1,9 +1,8 @@
 // The two writers: the text of a record, over the value that its places point into, is put into lent room. A value over 1,024 bytes is refused,
 // then a place that lies outside the value, then a room that is too short; the room is not touched where the answer is a refusal.
-mod media;
-mod parts;
-mod reference;
-
+ghost use mathlib.Core.Path.{_≡_};
+ghost use Prim.Native.Nat.{_≤_};
+ghost use lib.ListN.{length};
 ghost use Rattle.meaning.specs.Text.{referenceClockText, mediaClockSourceText};
 ghost use Rattle.meaning.specs.Inside.{referenceClockInside, mediaClockSourceInside};
 ghost use Rattle.writing.specs.Writes.{Writes};
@@ -12,9 +11,20 @@ use clock::ReferenceClock;
 use clock::Refusal;
 use clock::WriteRefusal;
 use clock::Wrote;
+use recordtext::media;
+use recordtext::reference;
 
 // How many bytes a value may have.
 const MOST_BYTES: usize = 1024;
+
+// How long the text is: it is put into no room.
+fn measure_reference_clock(value: &[u8], clock: ReferenceClock) -> usize
+    requires { ⌜ length (now value) ≤ 1024 ⌝ }
+    ensures { λ r. ⌜ r ≡ length (referenceClockText (now (value .entry)) clock) ⌝ }
+{
+    let mut nothing = [0u8; 0];
+    reference::put_clock(&mut nothing, 0, value, clock)
+}
 
 pub fn write_reference_clock(clock: ReferenceClock, value: &[u8], room: &mut [u8]) -> Wrote
     ensures { λ r. ⌜ Writes (now (value .entry)) (referenceClockInside (now (value .entry)) clock) (referenceClockText (now (value .entry)) clock) (now (room .entry)) r (now (room .exit)) ⌝ }
@@ -32,12 +42,21 @@ pub fn write_reference_clock(clock: ReferenceClock, value: &[u8], room: &mut [u8
         let written = reference::put_clock(room, 0, value, clock);
         return Wrote::Length(written);
     }
-    let needed = reference::measure(value, clock);
+    let needed = measure_reference_clock(value, clock);
     if room.len() < needed {
         return Wrote::Refused(WriteRefusal::Room(needed));
     }
     reference::put_clock(room, 0, value, clock);
     Wrote::Length(needed)
+}
+
+// How long the text is: it is put into no room.
+fn measure_media_clock_source(value: &[u8], source: MediaClockSource) -> usize
+    requires { ⌜ length (now value) ≤ 1024 ⌝ }
+    ensures { λ r. ⌜ r ≡ length (mediaClockSourceText (now (value .entry)) source) ⌝ }
+{
+    let mut nothing = [0u8; 0];
+    media::put_source(&mut nothing, 0, value, source)
 }
 
 pub fn write_media_clock_source(source: MediaClockSource, value: &[u8], room: &mut [u8]) -> Wrote
@@ -56,7 +75,7 @@ pub fn write_media_clock_source(source: MediaClockSource, value: &[u8], room: &m
         let written = media::put_source(room, 0, value, source);
         return Wrote::Length(written);
     }
-    let needed = media::measure(value, source);
+    let needed = measure_media_clock_source(value, source);
     if room.len() < needed {
         return Wrote::Refused(WriteRefusal::Room(needed));
     }

@@ -34,8 +34,8 @@ same-length c = search needs
 returns-3 : tie.Need-returns-3
 returns-3 c = search (needs, laws)
 
-measure-requires : tie.Need-measure-requires
-measure-requires c κs = search needs
+measure-media-clock-source-requires : tie.Need-measure-media-clock-source-requires
+measure-media-clock-source-requires c κs = search needs
 
 returns-4 : tie.Need-returns-4
 returns-4 c = search (needs, laws)
@@ -63,7 +63,7 @@ write-media-clock-source-spec =
     put-source-requires
     same-length
     returns-3
-    measure-requires
+    measure-media-clock-source-requires
     returns-4
     put-source-requires-2
     same-length-2

@@ -34,8 +34,8 @@ same-length c = search needs
 returns-3 : tie.Need-returns-3
 returns-3 c = search (needs, laws)
 
-measure-requires : tie.Need-measure-requires
-measure-requires c κs = search needs
+measure-reference-clock-requires : tie.Need-measure-reference-clock-requires
+measure-reference-clock-requires c κs = search needs
 
 returns-4 : tie.Need-returns-4
 returns-4 c = search (needs, laws)
@@ -63,7 +63,7 @@ write-reference-clock-spec =
     put-clock-requires
     same-length
     returns-3
-    measure-requires
+    measure-reference-clock-requires
     returns-4
     put-clock-requires-2
     same-length-2

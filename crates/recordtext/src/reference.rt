@@ -1,0 +1,254 @@
+// The text of a ts-refclk record, and whether its places lie inside the value. A local that holds a place in the room is named by what
+// is put there.
+ghost use mathlib.Core.Path.{_≡_};
+ghost use mathlib.Core.Bool.{_&&_};
+ghost use mathlib.Core.List.{[], _∷_};
+ghost use mathlib.Core.Option.{some};
+ghost use Prim.Native.Nat.{_+_, _*_, _≤_};
+ghost use lib.ListN.{length};
+ghost use Rattle.number.specs.Decimal.{decimal};
+ghost use Rattle.meaning.specs.Domain.{bare};
+ghost use Rattle.meaning.specs.Meaning.{ptp, versionMeans, domainMeans, optDomainMeans, serverMeans, portMeans, ntpMeans, privateMeans};
+ghost use Rattle.meaning.specs.Text.{versionText, domainText, serverText, hostText, refMeaningText, referenceClockText};
+ghost use Rattle.meaning.specs.Inside.{versionInside, domainInside, optDomainInside, serverInside, ntpInside, referenceClockInside};
+ghost use Rattle.room.specs.Put.{Put};
+use crate::parts;
+use clock::NtpServerAddr;
+use clock::OptDomain;
+use clock::OptPort;
+use clock::PrivateSource;
+use clock::PtpDomain;
+use clock::PtpServer;
+use clock::PtpVersion;
+use clock::ReferenceClock;
+
+fn is_version_inside(value: &[u8], version: PtpVersion) -> bool
+    ensures { λ r. ⌜ r ≡ versionInside (now (value .entry)) version ⌝ }
+{
+    match version {
+        PtpVersion::Ieee1588_2002 => true,
+        PtpVersion::Ieee1588_2008 => true,
+        PtpVersion::Ieee8021As_2011 => true,
+        PtpVersion::Ext(p) => parts::is_inside(value, p),
+    }
+}
+
+fn is_domain_inside(value: &[u8], domain: PtpDomain) -> bool
+    ensures { λ r. ⌜ r ≡ domainInside (now (value .entry)) domain ⌝ }
+{
+    match domain {
+        PtpDomain::DomainName { name } => parts::is_inside(value, name),
+        PtpDomain::DomainNumber(_) => true,
+    }
+}
+
+fn is_opt_domain_inside(value: &[u8], domain: OptDomain) -> bool
+    ensures { λ r. ⌜ r ≡ optDomainInside (now (value .entry)) domain ⌝ }
+{
+    match domain {
+        OptDomain::NoDomain => true,
+        OptDomain::SomeDomain(d) => is_domain_inside(value, d),
+    }
+}
+
+fn is_server_inside(value: &[u8], server: PtpServer) -> bool
+    ensures { λ r. ⌜ r ≡ serverInside (now (value .entry)) server ⌝ }
+{
+    match server {
+        PtpServer::GmidDomain { gmid: _, domain } => is_opt_domain_inside(value, domain),
+        PtpServer::Traceable => true,
+    }
+}
+
+fn is_ptp_inside(value: &[u8], version: PtpVersion, server: PtpServer) -> bool
+    ensures { λ r. ⌜ r ≡ (versionInside (now (value .entry)) version && serverInside (now (value .entry)) server) ⌝ }
+{
+    if !is_version_inside(value, version) {
+        return false;
+    }
+    is_server_inside(value, server)
+}
+
+fn is_ntp_inside(value: &[u8], server: NtpServerAddr) -> bool
+    ensures { λ r. ⌜ r ≡ ntpInside (now (value .entry)) server ⌝ }
+{
+    match server {
+        NtpServerAddr::HostPort { hostname, port: _ } => parts::is_inside(value, hostname),
+        NtpServerAddr::Traceable => true,
+    }
+}
+
+pub fn is_clock_inside(value: &[u8], clock: ReferenceClock) -> bool
+    ensures { λ r. ⌜ r ≡ referenceClockInside (now (value .entry)) clock ⌝ }
+{
+    match clock {
+        ReferenceClock::Ntp(n) => {
+            let server = n.server;
+            is_ntp_inside(value, server)
+        }
+        ReferenceClock::Ptp(p) => {
+            let version = p.version;
+            let server = p.server;
+            is_ptp_inside(value, version, server)
+        }
+        ReferenceClock::Gps => true,
+        ReferenceClock::Gal => true,
+        ReferenceClock::Glonass => true,
+        ReferenceClock::Local => true,
+        ReferenceClock::Private(_) => true,
+        ReferenceClock::Ext(e) => {
+            let name = e.name;
+            let given = e.value;
+            parts::is_extension_inside(value, name, given)
+        }
+    }
+}
+
+fn put_port(room: &mut [u8], at: usize, port: u16) -> usize
+    requires { ⌜ at + 11 ≤ 65536 ⌝ }
+    ensures { λ r. ⌜ Put 11 (now (room .entry)) at (58 ∷ decimal port) r (now (room .exit)) ⌝ }
+{
+    let to = room::put_byte(room, at, b':');
+    room::put_decimal(room, to, port as u32)
+}
+
+// A host that has a colon stands in brackets before a port.
+fn put_host_and_port(room: &mut [u8], at: usize, host: &[u8], port: u16) -> usize
+    requires { ⌜ at + (length (now host) + 13) ≤ 65536 ⌝ }
+    ensures { λ r. ⌜ Put (length (now (host .entry)) + 13) (now (room .entry)) at (hostText (now (host .entry)) (some port)) r (now (room .exit)) ⌝ }
+{
+    if text::find(host, b':') < host.len() {
+        let inner = room::put_byte(room, at, b'[');
+        let close = room::put_bytes(room, inner, host);
+        let colon = room::put_byte(room, close, b']');
+        return put_port(room, colon, port);
+    }
+    let colon = room::put_bytes(room, at, host);
+    put_port(room, colon, port)
+}
+
+// `portMeans` and `privateMeans` take a value and do not look at it.
+fn put_host(room: &mut [u8], at: usize, host: &[u8], port: OptPort) -> usize
+    requires { ⌜ at + (length (now host) + 13) ≤ 65536 ⌝ }
+    ensures { λ r. ⌜ Put (length (now (host .entry)) + 13) (now (room .entry)) at (hostText (now (host .entry)) (portMeans (now (host .entry)) port)) r (now (room .exit)) ⌝ }
+{
+    match port {
+        OptPort::NoPort => room::put_bytes(room, at, host),
+        OptPort::SomePort(n) => put_host_and_port(room, at, host, n),
+    }
+}
+
+fn put_ntp(room: &mut [u8], at: usize, value: &[u8], server: NtpServerAddr) -> usize
+    requires { ⌜ at + (length (now value) + 17) ≤ 65536 ⌝ }
+    ensures { λ r. ⌜ Put (length (now (value .entry)) + 17) (now (room .entry)) at (refMeaningText bare (ntpMeans (now (value .entry)) server)) r (now (room .exit)) ⌝ }
+{
+    match server {
+        NtpServerAddr::HostPort { hostname, port } => {
+            let to = room::put_bytes(room, at, b"ntp=");
+            put_host(room, to, text::part(value, hostname), port)
+        }
+        NtpServerAddr::Traceable => room::put_bytes(room, at, b"ntp=/traceable/"),
+    }
+}
+
+fn put_version(room: &mut [u8], at: usize, value: &[u8], version: PtpVersion) -> usize
+    requires { ⌜ at + (length (now value) + 16) ≤ 65536 ⌝ }
+    ensures { λ r. ⌜ Put (length (now (value .entry)) + 16) (now (room .entry)) at (versionText (versionMeans (now (value .entry)) version)) r (now (room .exit)) ⌝ }
+{
+    match version {
+        PtpVersion::Ieee1588_2002 => room::put_bytes(room, at, b"IEEE1588-2002"),
+        PtpVersion::Ieee1588_2008 => room::put_bytes(room, at, b"IEEE1588-2008"),
+        PtpVersion::Ieee8021As_2011 => room::put_bytes(room, at, b"IEEE802.1AS-2011"),
+        PtpVersion::Ext(p) => room::put_part(room, at, value, p),
+    }
+}
+
+// The one place where a domain is written.
+fn put_domain(room: &mut [u8], at: usize, value: &[u8], domain: PtpDomain) -> usize
+    requires { ⌜ at + (length (now value) + 10) ≤ 65536 ⌝ }
+    ensures { λ r. ⌜ Put (length (now (value .entry)) + 10) (now (room .entry)) at (bare .text (domainMeans (now (value .entry)) domain)) r (now (room .exit)) ⌝ }
+{
+    match domain {
+        PtpDomain::DomainName { name } => room::put_part(room, at, value, name),
+        PtpDomain::DomainNumber(n) => room::put_decimal(room, at, n as u32),
+    }
+}
+
+fn put_opt_domain(room: &mut [u8], at: usize, value: &[u8], domain: OptDomain) -> usize
+    requires { ⌜ at + (length (now value) + 11) ≤ 65536 ⌝ }
+    ensures { λ r. ⌜ Put (length (now (value .entry)) + 11) (now (room .entry)) at (domainText bare (optDomainMeans (now (value .entry)) domain)) r (now (room .exit)) ⌝ }
+{
+    match domain {
+        OptDomain::NoDomain => at,
+        OptDomain::SomeDomain(d) => {
+            let to = room::put_byte(room, at, b':');
+            put_domain(room, to, value, d)
+        }
+    }
+}
+
+fn put_server(room: &mut [u8], at: usize, value: &[u8], server: PtpServer) -> usize
+    requires { ⌜ at + (length (now value) + 34) ≤ 65536 ⌝ }
+    ensures { λ r. ⌜ Put (length (now (value .entry)) + 34) (now (room .entry)) at (serverText bare (serverMeans (now (value .entry)) server)) r (now (room .exit)) ⌝ }
+{
+    match server {
+        PtpServer::GmidDomain { gmid, domain } => {
+            let to = room::put_eui64(room, at, gmid.id);
+            put_opt_domain(room, to, value, domain)
+        }
+        PtpServer::Traceable => room::put_bytes(room, at, b"traceable"),
+    }
+}
+
+fn put_ptp(
+    room: &mut [u8],
+    at: usize,
+    value: &[u8],
+    version: PtpVersion,
+    server: PtpServer,
+) -> usize
+    requires { ⌜ at + (2 * length (now value) + 55) ≤ 65536 ⌝ }
+    ensures { λ r. ⌜ Put (2 * length (now (value .entry)) + 55) (now (room .entry)) at (refMeaningText bare (ptp (versionMeans (now (value .entry)) version) (serverMeans (now (value .entry)) server))) r (now (room .exit)) ⌝ }
+{
+    let first = room::put_bytes(room, at, b"ptp=");
+    let colon = put_version(room, first, value, version);
+    let second = room::put_byte(room, colon, b':');
+    put_server(room, second, value, server)
+}
+
+fn put_private(room: &mut [u8], at: usize, source: PrivateSource) -> usize
+    requires { ⌜ at + 17 ≤ 65536 ⌝ }
+    ensures { λ r. ⌜ Put 17 (now (room .entry)) at (refMeaningText bare (privateMeans [] source)) r (now (room .exit)) ⌝ }
+{
+    match source {
+        PrivateSource::Standard => room::put_bytes(room, at, b"private"),
+        PrivateSource::Traceable => room::put_bytes(room, at, b"private:traceable"),
+    }
+}
+
+pub fn put_clock(room: &mut [u8], at: usize, value: &[u8], clock: ReferenceClock) -> usize
+    requires { ⌜ at + (2 * length (now value) + 55) ≤ 65536 ⌝ }
+    ensures { λ r. ⌜ Put (2 * length (now (value .entry)) + 55) (now (room .entry)) at (referenceClockText (now (value .entry)) clock) r (now (room .exit)) ⌝ }
+{
+    match clock {
+        ReferenceClock::Ntp(n) => {
+            let server = n.server;
+            put_ntp(room, at, value, server)
+        }
+        ReferenceClock::Ptp(p) => {
+            let version = p.version;
+            let server = p.server;
+            put_ptp(room, at, value, version, server)
+        }
+        ReferenceClock::Gps => room::put_bytes(room, at, b"gps"),
+        ReferenceClock::Gal => room::put_bytes(room, at, b"gal"),
+        ReferenceClock::Glonass => room::put_bytes(room, at, b"glonass"),
+        ReferenceClock::Local => room::put_bytes(room, at, b"local"),
+        ReferenceClock::Private(p) => put_private(room, at, p),
+        ReferenceClock::Ext(e) => {
+            let name = e.name;
+            let given = e.value;
+            parts::put_extension(room, at, value, name, given)
+        }
+    }
+}
