@@ -14,6 +14,7 @@ use Rattle.eui64.specs.declared.BrokenRule.{BrokenRule}
 use Rattle.eui64.specs.declared.BrokenRule.the-variants.{Length, SegmentLength, SegmentDigits}
 use Rattle.clock.specs.Records.{eui64, mediaClockSource, mediaClockId, rate, direct, mediaClockExt}
 use Rattle.clock.specs.declared.Eui64.{Eui64}
+use Rattle.clock.specs.declared.OptId.{OptId}
 use Rattle.clock.specs.declared.OptId.the-variants.{NoId, SomeId}
 use Rattle.clock.specs.declared.OptOffset.the-variants.{NoOffset, SomeOffset}
 use Rattle.clock.specs.declared.OptRate.{OptRate}
@@ -97,20 +98,22 @@ tagOf src at s = cond (empty s) (refuse 13 at 0) (accepted (mediaClockId src (pl
 unfoldable pub idOf : ℕ → List ℕ → Answer MediaClockId
 idOf at s = cond (starts (word "src:") s) (tagOf true (at + 4) (drop 4 s)) (tagOf false at s)
 
+-- the source of an id and the clock that is read behind it
+abbrev pub withClock : OptId → Answer MediaClock → Answer MediaClockSource
+withClock i a = a >>= λ c. accepted (mediaClockSource i c)
+
 -- behind "id=": the id runs to the first space, then the clock
 unfoldable pub taggedOf : ℕ → List ℕ → Answer MediaClockSource
 taggedOf at s =
     let i = before 32 s in
     cond (ltb i (length s))
-    (idOf at (take i s) >>= λ d.
-    mediaClockOf (at + (i + 1)) (drop (i + 1) s) >>= λ c.
-    accepted (mediaClockSource (SomeId d) c))
+    (idOf at (take i s) >>= λ d. withClock (SomeId d) (mediaClockOf (at + (i + 1)) (drop (i + 1) s)))
     (refuse 12 (at + length s) 0)
 
 unfoldable pub sourceOf : List ℕ → Answer MediaClockSource
 sourceOf s =
     cond (starts (word "id=") s) (taggedOf 3 (drop 3 s))
-    (mediaClockOf 0 s >>= λ c. accepted (mediaClockSource NoId c))
+    (withClock NoId (mediaClockOf 0 s))
 
 -- the whole value
 unfoldable pub mediaClockSourceOf : List ℕ → Answer MediaClockSource

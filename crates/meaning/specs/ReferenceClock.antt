@@ -87,6 +87,10 @@ gmidOr (gmid.Refused fault) r = refused r
 unfoldable pub gmidOf : ℕ → List ℕ → Answer Eui64
 gmidOf at s = gmidOr (eui64Of s) (refusal 9 at (length s))
 
+-- an extension as a clock
+abbrev pub extensionClockOf : List ℕ → Answer ReferenceClock
+extensionClockOf s = extensionOf clockSourceExt 11 0 s >>= λ e. accepted (clock.Ext e)
+
 module _ (spelling : Spelling) where
   -- what stands behind the GMID, i bytes into s: nothing, or ":" and the domain
   unfoldable pub domainOf : ℕ → ℕ → List ℕ → Answer OptDomain
@@ -120,7 +124,7 @@ module _ (spelling : Spelling) where
       (cond (same s (word "local")) (accepted clock.Local)
       (cond (same s (word "private")) (accepted (clock.Private private.Standard))
       (cond (same s (word "private:traceable")) (accepted (clock.Private private.Traceable))
-      (extensionOf clockSourceExt 11 0 s >>= λ e. accepted (clock.Ext e)))))))))
+      (extensionClockOf s))))))))
 
   -- the whole value
   unfoldable pub referenceClockOf : List ℕ → Answer ReferenceClock

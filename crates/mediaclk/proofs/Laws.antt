@@ -37,8 +37,8 @@ use Rattle.clock.specs.declared.MediaClock.the-variants as clock
 use Rattle.clock.specs.declared.MediaClockSourceRead.{MediaClockSourceRead}
 use Rattle.clock.specs.declared.MediaClockSourceRead.the-variants as source
 use Rattle.meaning.specs.Answer.{Answer, accepted, refused, extensionOf, guarded}
-use Rattle.meaning.specs.MediaClock.{brokenNumber, directOf, streamOf, mediaClockOf, tagOf, idOf, taggedOf, sourceOf, mediaClockSourceOf, asMediaClockSourceRead, readMediaClockSource}
-use Rattle.mediaclk.specs.Answers.{directAnswer, idAnswer, streamAnswer, extensionAnswer, mediaClockAnswer, withClock}
+use Rattle.meaning.specs.MediaClock.{brokenNumber, directOf, streamOf, mediaClockOf, tagOf, idOf, taggedOf, sourceOf, mediaClockSourceOf, asMediaClockSourceRead, readMediaClockSource, withClock}
+use Rattle.mediaclk.specs.Answers.{directAnswer, idAnswer, streamAnswer, extensionAnswer, mediaClockAnswer}
 use Rattle.mediaclk.specs.declared.direct.DirectRead.{DirectRead}
 use Rattle.mediaclk.specs.declared.direct.DirectRead.the-variants as direct
 use Rattle.mediaclk.specs.declared.id.IdRead.{IdRead}

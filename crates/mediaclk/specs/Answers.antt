@@ -1,15 +1,12 @@
 -- The paper's answer for every case of an answer inside the reader.
 use Prim.Native.Nat.{ℕ}
-use Rattle.clock.specs.Records.{mediaClockSource}
 use Rattle.clock.specs.declared.Eui64.{Eui64}
-use Rattle.clock.specs.declared.OptId.{OptId}
 use Rattle.clock.specs.declared.OptRate.{OptRate}
 use Rattle.clock.specs.declared.Direct.{Direct}
 use Rattle.clock.specs.declared.MediaClockId.{MediaClockId}
 use Rattle.clock.specs.declared.MediaClockExt.{MediaClockExt}
 use Rattle.clock.specs.declared.MediaClock.{MediaClock}
-use Rattle.clock.specs.declared.MediaClockSource.{MediaClockSource}
-use Rattle.meaning.specs.Answer.{Answer, accepted, refused, _>>=_}
+use Rattle.meaning.specs.Answer.{Answer, accepted, refused}
 use Rattle.mediaclk.specs.declared.direct.DenominatorRead.{DenominatorRead}
 use Rattle.mediaclk.specs.declared.direct.DenominatorRead.the-variants as denominator
 use Rattle.mediaclk.specs.declared.direct.RateRead.{RateRead}
@@ -52,7 +49,3 @@ extensionAnswer (extension.Refused r) = refused r
 abbrev pub mediaClockAnswer : MediaClockRead → Answer MediaClock
 mediaClockAnswer (clock.Accepted c) = accepted c
 mediaClockAnswer (clock.Refused r) = refused r
-
--- the source of an id and the clock that is read behind it
-abbrev pub withClock : OptId → Answer MediaClock → Answer MediaClockSource
-withClock i a = a >>= λ c. accepted (mediaClockSource i c)

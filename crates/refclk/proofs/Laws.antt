@@ -26,8 +26,8 @@ use Rattle.clock.specs.declared.ReferenceClockRead.{ReferenceClockRead}
 use Rattle.clock.specs.declared.ReferenceClockRead.the-variants.{Accepted, Refused}
 use Rattle.meaning.specs.Answer.{extensionOf, guarded}
 use Rattle.meaning.specs.Domain.{bare}
-use Rattle.meaning.specs.ReferenceClock.{ntpOf, ptpOf, clockOf, referenceClockOf, asReferenceClockRead, readReferenceClock}
-use Rattle.refclk.specs.Answers.{extensionClockOf, ntpAnswer, ptpAnswer}
+use Rattle.meaning.specs.ReferenceClock.{ntpOf, ptpOf, clockOf, referenceClockOf, asReferenceClockRead, readReferenceClock, extensionClockOf}
+use Rattle.refclk.specs.Answers.{ntpAnswer, ptpAnswer}
 use Rattle.refclk.specs.declared.ntp.NtpRead.{NtpRead}
 use Rattle.refclk.specs.declared.ntp.NtpRead.the-variants as server
 use Rattle.refclk.specs.declared.ptp.PtpRead.{PtpRead}

@@ -1,7 +1,4 @@
--- The paper's answer for every case of each private answer, and an extension of ts-refclk as a clock.
-use Prim.Native.Nat.{ℕ}
-use mathlib.Core.List.{List}
-use Rattle.clock.specs.Records.{clockSourceExt}
+-- The paper's answer for every case of each private answer.
 use Rattle.clock.specs.Refusal.{refusal}
 use Rattle.clock.specs.declared.Refusal.{Refusal}
 use Rattle.clock.specs.declared.OptPort.{OptPort}
@@ -10,9 +7,7 @@ use Rattle.clock.specs.declared.PtpVersion.{PtpVersion}
 use Rattle.clock.specs.declared.PtpDomain.{PtpDomain}
 use Rattle.clock.specs.declared.PtpServer.{PtpServer}
 use Rattle.clock.specs.declared.Ptp.{Ptp}
-use Rattle.clock.specs.declared.ReferenceClock.{ReferenceClock}
-use Rattle.clock.specs.declared.ReferenceClock.the-variants as clock
-use Rattle.meaning.specs.Answer.{Answer, accepted, refused, _>>=_, extensionOf}
+use Rattle.meaning.specs.Answer.{Answer, accepted, refused}
 use Rattle.refclk.specs.declared.ntp.PortRead.{PortRead}
 use Rattle.refclk.specs.declared.ntp.PortRead.the-variants as port
 use Rattle.refclk.specs.declared.ntp.NtpRead.{NtpRead}
@@ -54,6 +49,3 @@ serverAnswer (server.Refused r) = refused r
 abbrev pub ptpAnswer : PtpRead → Answer Ptp
 ptpAnswer (ptp.Accepted p) = accepted p
 ptpAnswer (ptp.Refused r) = refused r
-
-abbrev pub extensionClockOf : List ℕ → Answer ReferenceClock
-extensionClockOf s = extensionOf clockSourceExt 11 0 s >>= λ e. accepted (clock.Ext e)
