@@ -26,7 +26,7 @@ use Rattle.meaning.proofs.Media.{media-inside, media-short, media-back,
 use Rattle.meaning.proofs.Room.{wrote-length, wrote-text}
 
 -- ts-refclk
-ref-answer : (v : List ℕ) (c : ReferenceClock) → readReferenceClock v ≡ ref.Accepted c → referenceClockOf bare v ≡ accepted c
+pub ref-answer : (v : List ℕ) (c : ReferenceClock) → readReferenceClock v ≡ ref.Accepted c → referenceClockOf bare v ≡ accepted c
 unfolding readReferenceClock
 ref-answer v c h = go (referenceClockOf bare v) h
   where

@@ -82,7 +82,7 @@ module _ (v : List ℕ) (at : ℕ) (x : List ℕ) where
   version-same w r q (is-2011 e) = refl
   version-same w r q is-own = rw q
 
-was-gmid : (x : Eui64Read) (r : Refusal) (g : Eui64) → gmidOr x r ≡ accepted g → Id (g .id) ≡ x
+pub was-gmid : (x : Eui64Read) (r : Refusal) (g : Eui64) → gmidOr x r ≡ accepted g → Id (g .id) ≡ x
 was-gmid (Id n) r g h = let k : g ≡ made.eui64 n = cc in rw k
 was-gmid (Refused fault) r g h = clash (cc)
 

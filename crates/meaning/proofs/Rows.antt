@@ -30,7 +30,7 @@ use Rattle.meaning.specs.Text.{refMeaningText, referenceClockText, sourc
 use Rattle.meaning.proofs.Told.{guarded-well}
 use Rattle.meaning.specs.Rows.{Given, ts-refclk, mediaclk, Said, refWritten, sourceWritten, said, edges, domains}
 
-abbrev short : List ℕ → Bool
+abbrev pub short : List ℕ → Bool
 short s = leb (length s) 1024 && ascii s
 
 abbrev plain : Given → Bool
@@ -48,28 +48,34 @@ module _ (v : List ℕ) (h : short v ≡ true) where
   form : utf8Of v ≡ Well
   form = utf8-all-ascii v (and-right (leb (length v) 1024) (ascii v) h)
 
+  pub ref-plain : readReferenceClock v ≡ asReferenceClockRead (clockOf bare v)
+  unfolding readReferenceClock referenceClockOf
+  ref-plain = rw (guarded-well v (clockOf bare v) fits form)
+
 said-plain : (g : Given) → plain g ≡ true → said g ≡ saidPlain g
-unfolding readReferenceClock referenceClockOf readMediaClockSource mediaClockSourceOf
-said-plain (ts-refclk v) h = rw (guarded-well v (clockOf bare v) (fits v h) (form v h))
+unfolding readMediaClockSource mediaClockSourceOf
+said-plain (ts-refclk v) h = rw (ref-plain v h)
 said-plain (mediaclk v) h = rw (guarded-well v (sourceOf v) (fits v h) (form v h))
 
-abbrev allPlain : List (Example Given Said) → Bool
-allPlain [] = true
-allPlain (r ∷ rows) = plain (r .given) && allPlain rows
+-- rows hold of f that hold of g, where the two agree on what is given
+module _ {A B : Type 0} (f g : A → B) (ok : A → Bool) (agree : (a : A) → ok a ≡ true → f a ≡ g a) where
+  abbrev pub allOk : List (Example A B) → Bool
+  allOk [] = true
+  allOk (r ∷ rows) = ok (r .given) && allOk rows
 
-each-plain : (rows : List (Example Given Said)) → allPlain rows ≡ true → Each saidPlain rows → Each said rows
-each-plain rows h e = go rows h ∙ e
-  where
-    go : (rows : List (Example Given Said)) → allPlain rows ≡ true
-        → map (λ (r : Example Given Said). said (r .given)) rows ≡ map (λ (r : Example Given Said). saidPlain (r .given)) rows
-    go [] h = refl
-    go (r ∷ rows) h =
-        rw (said-plain (r .given) (and-left (plain (r .given)) (allPlain rows) h), go rows (and-right (plain (r .given)) (allPlain rows) h))
+  pub each-where : (rows : List (Example A B)) → allOk rows ≡ true → Each g rows → Each f rows
+  each-where rows h e = go rows h ∙ e
+    where
+      go : (rows : List (Example A B)) → allOk rows ≡ true
+          → map (λ (r : Example A B). f (r .given)) rows ≡ map (λ (r : Example A B). g (r .given)) rows
+      go [] h = refl
+      go (r ∷ rows) h =
+          rw (agree (r .given) (and-left (ok (r .given)) (allOk rows) h), go rows (and-right (ok (r .given)) (allOk rows) h))
 
 pub edges-hold : Each said edges
 unfolding clockOf ntpOf hostOf bracketOf addressOf portOf ptpOf versionOf serverOf gmidOf domainOf bareRead extensionOf sourceOf taggedOf idOf tagOf mediaClockOf streamOf directOf offsetOf rateOf ratioOf denominatorOf referenceClockText refMeaningText refMeaning bareText mediaClockSourceText sourceMeaningText mediaMeaning before beforePair throughLast same endsIn bytesAt numberOf digitsOf allDigits valueFrom decimal digitsIn hexDigit hexCapital eui64Of segmentsOf segmentOf highDigit cutAtEach eui64Text segmentsText ipAddress ipv6address ipv4address ls32 doubleColon h16colon h16 decOctet hexdig nothing range _or_ _then_ times upto
-edges-hold = each-plain edges refl refl
+edges-hold = each-where said saidPlain plain said-plain edges refl refl
 
 pub domains-hold : Each said domains
 unfolding clockOf ptpOf versionOf serverOf gmidOf domainOf bareRead referenceClockText refMeaningText refMeaning bareText before same bytesAt numberOf digitsOf allDigits valueFrom decimal digitsIn hexDigit hexCapital eui64Of segmentsOf segmentOf highDigit cutAtEach eui64Text segmentsText
-domains-hold = each-plain domains refl refl
+domains-hold = each-where said saidPlain plain said-plain domains refl refl

@@ -1,0 +1,135 @@
+//! A program of ours run on frames: one thread writes them, the other reads the lines, so neither waits for the other and nothing piles up.
+
+use crate::notation::hex;
+use std::io::{BufRead, BufReader, BufWriter, Read, Write};
+use std::process::{Child, ChildStdout, Command, Stdio};
+use std::thread;
+
+/// How many lines of each sort the program printed.
+#[derive(Default)]
+pub struct Lines {
+    pub accepted: u64,
+    pub refused: u64,
+}
+
+/// Runs the program on the frames of the items and hands on each item with the line that answers it. The last line must have the right sums.
+pub fn ask<T, I>(command: &[String], items: I, frame: impl Fn(&T) -> Vec<u8> + Sync, each: impl FnMut(T, &str)) -> Result<Lines, String>
+where
+    I: Iterator<Item = T> + Clone + Send,
+{
+    let mut child = start(command)?;
+    let input = child.stdin.take().ok_or("no standard input")?;
+    let output = Output(BufReader::with_capacity(1 << 16, child.stdout.take().ok_or("no standard output")?));
+    let to_write = items.clone();
+    let lines = thread::scope(|scope| {
+        scope.spawn(|| {
+            let mut input = BufWriter::with_capacity(1 << 16, input);
+            for item in to_write {
+                // a program that ends early is noticed by its missing line
+                if input.write_all(&frame(&item)).is_err() {
+                    return;
+                }
+            }
+            drop(input.flush());
+        });
+        read(output, items, &frame, each)
+    })?;
+    let status = child.wait().map_err(|error| error.to_string())?;
+    if status.success() {
+        Ok(lines)
+    } else {
+        Err(format!("the program ended with {status}"))
+    }
+}
+
+fn start(command: &[String]) -> Result<Child, String> {
+    let (program, arguments) = command.split_first().ok_or("no program given")?;
+    let started = Command::new(program).args(arguments).stdin(Stdio::piped()).stdout(Stdio::piped()).spawn();
+    started.map_err(|error| format!("{program}: {error}"))
+}
+
+/// Reads the lines to the end. At the first that is no answer the output is closed, so that the program, and with it the writing thread, ends.
+fn read<T>(
+    mut output: Output<ChildStdout>,
+    items: impl Iterator<Item = T>,
+    frame: impl Fn(&T) -> Vec<u8>,
+    mut each: impl FnMut(T, &str),
+) -> Result<Lines, String> {
+    let mut lines = Lines::default();
+    for item in items {
+        let before = lines.accepted + lines.refused;
+        let line = output.line()?.ok_or_else(|| format!("the program ended after {before} lines; the next frame is {}", hex(&frame(&item))))?;
+        match line.get(..3) {
+            Some("ok ") => lines.accepted += 1,
+            Some("no ") => lines.refused += 1,
+            _ => return Err(format!("after {before} lines the frame {} has no answer but {line:?}", hex(&frame(&item)))),
+        }
+        each(item, &line);
+    }
+    let sums = sums(lines.accepted, lines.refused);
+    match output.line()? {
+        Some(line) if line == sums => (),
+        other => return Err(format!("the last line is {other:?} and not {sums:?}")),
+    }
+    match output.line()? {
+        None => Ok(lines),
+        Some(more) => Err(format!("behind the last line stands {more:?}")),
+    }
+}
+
+/// All that the program prints on the input, which is short.
+pub fn ask_once(command: &[String], input: &[u8]) -> Result<String, String> {
+    let mut child = start(command)?;
+    let said = |error: std::io::Error| error.to_string();
+    child.stdin.take().ok_or("no standard input")?.write_all(input).map_err(said)?;
+    let output = child.wait_with_output().map_err(said)?;
+    Ok(String::from_utf8_lossy(&output.stdout).into_owned())
+}
+
+/// The last line that a program prints.
+pub fn sums(accepted: u64, refused: u64) -> String {
+    format!("frames {} ok {accepted} no {refused}", accepted + refused)
+}
+
+struct Output<R>(BufReader<R>);
+
+impl<R: Read> Output<R> {
+    /// The next line without its end, if there is one.
+    fn line(&mut self) -> Result<Option<String>, String> {
+        let mut line = Vec::new();
+        let read = self.0.read_until(b'\n', &mut line).map_err(|error| error.to_string())?;
+        if read == 0 {
+            return Ok(None);
+        }
+        if line.pop() != Some(b'\n') {
+            return Err("the last line has no end".into());
+        }
+        Ok(Some(String::from_utf8_lossy(&line).into_owned()))
+    }
+}
+
+/// Reads the frames of standard input and prints what `answer` makes of each, as our programs do: it stands for them where the comparison
+/// itself is tried.
+pub fn stand_in(answer: impl Fn(u8, &[u8]) -> String) -> std::io::Result<()> {
+    let mut input = BufReader::with_capacity(1 << 16, std::io::stdin().lock());
+    let mut output = BufWriter::with_capacity(1 << 16, std::io::stdout().lock());
+    let (mut accepted, mut refused) = (0, 0);
+    let mut letter = [0];
+    while input.read(&mut letter)? == 1 {
+        let mut len = [0; 2];
+        let mut value = Vec::new();
+        let whole = input.read_exact(&mut len).is_ok() && {
+            value.resize(usize::from(u16::from_be_bytes(len)), 0);
+            input.read_exact(&mut value).is_ok()
+        };
+        if !whole {
+            writeln!(output, "cut")?;
+            break;
+        }
+        let line = answer(letter[0], &value);
+        *(if line.starts_with("ok ") { &mut accepted } else { &mut refused }) += 1;
+        writeln!(output, "{line}")?;
+    }
+    writeln!(output, "{}", sums(accepted, refused))?;
+    output.flush()
+}

@@ -1,0 +1,5 @@
+-- The two questions, and what they owe.
+pub mod SameClock
+pub mod Governing
+pub mod Owed
+pub mod Examples

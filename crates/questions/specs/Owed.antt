@@ -1,0 +1,44 @@
+-- What the two questions owe. `proofs/Owed.antt` proves each of these statements.
+use Prim.Native.Nat.{ℕ}
+use mathlib.Core.Path.{_≡_}
+use mathlib.Core.Logic.{_↔_}
+use mathlib.Core.List.{List}
+use mathlib.Core.Bool.{true}
+use Rattle.text.specs.Place.{bytesAt}
+use Rattle.eui64.specs.Eui64.{eui64Of}
+use Rattle.eui64.specs.declared.Eui64Read.the-variants.{Id}
+use Rattle.clock.specs.Records.{ptp}
+use Rattle.clock.specs.declared.Eui64.{Eui64}
+use Rattle.clock.specs.declared.OptDomain.{OptDomain}
+use Rattle.clock.specs.declared.PtpVersion.{PtpVersion}
+use Rattle.clock.specs.declared.PtpServer.the-variants.{GmidDomain}
+use Rattle.clock.specs.declared.ReferenceClock.{ReferenceClock}
+use Rattle.clock.specs.declared.ReferenceClock.the-variants.{Ptp}
+use Rattle.clock.specs.declared.ReferenceClockRead.the-variants.{Accepted}
+use Rattle.meaning.specs.ReferenceClock.{readReferenceClock}
+use Rattle.meaning.specs.Demand3.{SameReferenceClock}
+use Rattle.questions.specs.SameClock.{sameClock}
+use Rattle.questions.specs.Governing.{gmidPlace}
+
+-- the same-clock question sorts accepted values into classes
+pub record Classes : Type 0 where
+  pub to-self : (v : List ℕ) (c : ReferenceClock) → readReferenceClock v ≡ Accepted c → sameClock v v ≡ true
+  pub back : (v w : List ℕ) → sameClock v w ≡ true → sameClock w v ≡ true
+  pub on : (v w x : List ℕ) → sameClock v w ≡ true → sameClock w x ≡ true → sameClock v x ≡ true
+
+-- both values are accepted, and the records are equal
+pub record EqualRecords (v w : List ℕ) : Type 0 where
+  pub first : ReferenceClock
+  pub second : ReferenceClock
+  pub is-first : readReferenceClock v ≡ Accepted first
+  pub is-second : readReferenceClock w ≡ Accepted second
+  pub equal : SameReferenceClock v first w second
+
+abbrev pub SameIsEqual : Type 0
+SameIsEqual = (v w : List ℕ) → (sameClock v w ≡ true) ↔ EqualRecords v w
+
+-- the text at the GMID's place is the GMID: it reads as the record's
+abbrev pub GmidThere : Type 0
+GmidThere =
+    (v : List ℕ) (x : PtpVersion) (g : Eui64) (d : OptDomain) → readReferenceClock v ≡ Accepted (Ptp (ptp x (GmidDomain g d)))
+    → eui64Of (bytesAt (gmidPlace v) v) ≡ Id (g .id)
