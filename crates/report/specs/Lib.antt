@@ -3,3 +3,6 @@ pub mod Lines
 pub mod Reply
 pub mod Report
 pub mod Reader
+pub mod Whole
+pub mod Examples
+pub mod Worked

@@ -26,10 +26,11 @@ readerOf t = record { begun = take 4098 (openFrom [] t); totals = totalsOf (ende
 abbrev pub plus32 : ℕ → ℕ → ℕ
 plus32 a b = (a + b) % 2 ^ 32
 
+abbrev pub added : Totals → Totals → Totals
+added a b = totals (plus32 (a .lines) (b .lines)) (plus32 (a .ok) (b .ok)) (plus32 (a .no) (b .no)) (plus32 (a .other) (b .other)) (plus32 (a .long) (b .long))
+
 unfoldable pub counted : Totals → Kind → Totals
-counted t k =
-    let one = totalsOfOne k in
-    totals (plus32 (t .lines) (one .lines)) (plus32 (t .ok) (one .ok)) (plus32 (t .no) (one .no)) (plus32 (t .other) (one .other)) (plus32 (t .long) (one .long))
+counted t k = added t (totalsOfOne k)
 
 unfoldable pub countedAll : Totals → List (List ℕ) → Totals
 countedAll t [] = t
@@ -53,6 +54,11 @@ closed r = record { begun = []; totals = countedAll (r .totals) (lastLine (r .be
 unfoldable pub session : Reader → List (List ℕ) → List ℕ
 session r [] = closeText r
 session r (s ∷ fragments) = feedText r s ++ session (fed r s) fragments
+
+-- the reader after fragments
+unfoldable pub fedAll : Reader → List (List ℕ) → Reader
+fedAll r [] = r
+fedAll r (s ∷ fragments) = fedAll (fed r s) fragments
 
 -- the text that was cut into fragments
 unfoldable pub joined : List (List ℕ) → List ℕ

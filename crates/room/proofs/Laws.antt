@@ -19,14 +19,14 @@ use Rattle.eui64.specs.Eui64.{segmentText, segmentsText, eui64Text}
 use Rattle.room.specs.Put.{Put}
 
 -- a text and then another, stored
-sets-append : (l : List ℕ) (at : ℕ) (s t : List ℕ) → sets l at (s ++ t) ≡ sets (sets l at s) (at + length s) t
+pub sets-append : (l : List ℕ) (at : ℕ) (s t : List ℕ) → sets l at (s ++ t) ≡ sets (sets l at s) (at + length s) t
 sets-append l at [] t = ap (λ (k : ℕ). sets l k t) (sym (add-zero at))
 sets-append l at (a ∷ s) t =
     sets-append (set l at a) (suc at) s t
     ∙ ap (λ (k : ℕ). sets (sets (set l at a) (suc at) s) k t) (suc-add at (length s) ∙ sym (add-suc at (length s)))
 
 -- behind the room's end nothing is stored
-sets-behind : (l : List ℕ) (at : ℕ) (s : List ℕ) → length l ≤ at → sets l at s ≡ l
+pub sets-behind : (l : List ℕ) (at : ℕ) (s : List ℕ) → length l ≤ at → sets l at s ≡ l
 sets-behind l at [] h = refl
 sets-behind l at (a ∷ s) h = ap (λ (m : List ℕ). sets m (suc at) s) (set-out l at a h) ∙ sets-behind l (suc at) s (omega arith)
 

@@ -1,0 +1,517 @@
+-- One law for each way out of this crate's functions, and the invariant of the loop over a fragment. Assumes nothing.
+use Prim.Native.Nat.{ℕ, suc, _+_, _*_, _-_, _≤_, _<_, min}
+use mathlib.Core.Path.{_≡_, refl, sym, ap, _∙_}
+use mathlib.Core.List.{List, [], _∷_, _++_, append-assoc, append-nil}
+use mathlib.Core.Bool.{Bool, true, false, cond}
+use native.Mathlib.Nat.{zero-add}
+use native.Mathlib.Numerals.{add-one}
+use native.Mathlib.Omega.{arith}
+use lib.Dec.{eqb, leb, ltb}
+use lib.ListN.{length, take, drop, length-append, length-take, length-drop, take-append-drop}
+use lib.Seq.{sets, sets-eq, length-sets, append-snoc, take-all, take-at, take-append-add, length-take-le, drop-drop, drop-length}
+use borrow.Rule.Slice.PartMut.{putMid, post-is}
+use mir.Val.{Fits}
+use mir.Syntax.{w64}
+use borrow.Author.Tests.{eq-eqb, ne-eqb, le-leb, lt-leb, lt-ltb, le-ltb, leb-true, leb-false, ltb-true, ltb-false}
+use Rattle.text.specs.Find.{before}
+use Rattle.text.specs.Word.{endsIn}
+use Rattle.text.proofs.Bools.{by-bool}
+use Rattle.text.proofs.Cuts.{ends-some, before-le}
+use Rattle.text.proofs.Left.{rest, rest-is}
+use Rattle.room.specs.Put.{Put}
+use Rattle.room.proofs.Laws.{put-front, sets-append, sets-behind}
+use Rattle.report.specs.Lines.{withoutCr, endedFrom, openFrom, lastLine}
+use Rattle.report.specs.Reply.{Reply, replyTo}
+use Rattle.report.specs.Report.{printed, totalsOf, totalsText}
+use Rattle.report.specs.Reader.{Reader, readerOf, counted, countedAll, feedText, fed, closeText, closed}
+use Rattle.report.specs.declared.Totals.{Totals}
+use Rattle.report.proofs.Lines.{ended-first, open-first, ended-none, open-none, ended-alike, more-alike, first-alike}
+use Rattle.report.proofs.Bounds.{reply-bound}
+use Rattle.report.proofs.Printed.{printed-append, printed-bound}
+use Rattle.answer.specs.Answers.{Answers, withFront}
+use Rattle.answer.specs.declared.Answered.{Answered}
+use Rattle.lines.specs.declared.State.{State}
+use Rattle.lines.specs.declared.Fed.{Fed}
+use Rattle.lines.specs.declared.Said.the-variants.{Filled, Refused}
+use Rattle.lines.specs.declared.Unfed.{Unfed}
+use Rattle.lines.specs.declared.Unfed.the-variants.{Closed, OverLimit, NoRoom}
+use Rattle.lines.specs.declared.Progress.{Progress}
+use Rattle.lines.specs.declared.Ran.{Ran}
+use Rattle.lines.specs.View.{view, stateOf, memoryAtEnd, memoryAfter}
+use Rattle.lines.specs.Call.{Outcome, prints, refuses, feedOutcome, closeOutcome, accepts, saidOf, roomOf, Does, Feeds, Closes}
+use Rattle.lines.specs.Steps.{Prints, progress, Passes, Keeps, Ends, Runs, finishText, Finishes}
+
+-- A text at the front of a part of the room, which begins at the place `at` or at the room's end if that comes first.
+module _ (t room part : List ℕ) (at from : ℕ) (f : from ≡ min at (length room)) (size : length part ≡ length (rest from room)) where
+  put-back : putMid from (length room - from) room part ≡ take from room ++ part
+  put-back =
+      ap (λ (x : List ℕ). take from room ++ (part ++ x)) (post-is from (length room) room (omega arith) ∙ drop-length room)
+      ∙ ap (λ (x : List ℕ). take from room ++ x) (append-nil part)
+
+  in-part : (length t ≤ length (rest from room) → part ≡ t ++ drop (length t) (rest from room))
+      → Prints t room at (at + length t) (putMid from (length room - from) room part)
+  in-part front =
+      rw put-back
+      (
+      let n : length (rest from room) ≡ length room - from = ap length (rest-is from room) ∙ length-drop from room in
+      record {
+        place = refl;
+        size = length-append (take from room) part ∙ omega (arith, length-take from room);
+        bytes = λ h.
+            let e : from ≡ at = omega arith in
+            ap (λ (x : List ℕ). take from room ++ x) (front (omega arith) ∙ ap (λ (x : List ℕ). t ++ drop (length t) x) (rest-is from room) ∙ ap (λ (x : List ℕ). t ++ x) (drop-drop (length t) from room))
+            ∙ sym (append-assoc (take from room) t (drop (from + length t) room))
+            ∙ ap (λ (k : ℕ). take k room ++ t ++ drop (k + length t) room) e
+            ∙ sym (sets-eq t room at h);
+      })
+
+-- texts one after another
+pub prints-then : {s t l m r : List ℕ} {at next last : ℕ} → Prints s l at next m → Prints t m next last r → Prints (s ++ t) l at last r
+prints-then {s} {t} {l} {m} {r} {at} {next} p q =
+    record {
+      place = omega (arith, p .place, q .place, length-append s t);
+      size = q .size ∙ p .size;
+      bytes = λ h.
+          q .bytes (omega (arith, p .size))
+          ∙ ap (λ (x : List ℕ). sets x next t) (p .bytes (omega (arith, q .place)))
+          ∙ ap (λ (k : ℕ). sets (sets l at s) k t) (p .place)
+          ∙ sym (sets-append l at s t);
+    }
+
+-- `put_line`
+printed-one : (l : List ℕ) → printed (l ∷ []) ≡ replyTo l .says
+unfolding printed
+printed-one l = append-nil (replyTo l .says)
+
+module _ (line room part : List ℕ) (p : Progress) (from : ℕ) (a : Answered) (t : Totals) where
+  pub line-fits : p .at + 6 * length line ≤ 70368744177664 → Answers (replyTo line) (rest from room) a part → Fits w64 (p .at + a .len)
+  line-fits h e = record { fits = omega (arith, e .len, reply-bound line) }
+
+  pub line-put : from ≡ min (p .at) (length room) → length part ≡ length (rest from room) → Answers (replyTo line) (rest from room) a part
+      → t ≡ counted (p .totals) (a .kind) → Passes (line ∷ []) room p (progress (p .at + a .len) t) (putMid from (length room - from) room part)
+  unfolding countedAll withFront
+  line-put f size e c =
+      record {
+        put =
+            rw (printed-one line, e .len)
+            (in-part (replyTo line .says) room part (p .at) from f size
+            (λ h. e .leaves ∙ simp (le-leb (length (replyTo line .says)) (length (rest from room)) h)));
+        totals = c ∙ ap (counted (p .totals)) (e .kind);
+      }
+
+-- `put_ended`
+module _ (raw : List ℕ) (b : Bool) (e : b ≡ endsIn 13 raw) where
+  module _ (h : b ≡ true) where
+    pub cr-some : 1 ≤ length raw
+    cr-some = ends-some 13 raw (sym e ∙ h)
+
+    pub cr-length : length raw - 1 ≡ length (take (length raw - 1) raw)
+    cr-length = sym (length-take-le (length raw - 1) raw (omega arith))
+
+    pub cr-asks : (at : ℕ) → at + 6 * length raw ≤ 70368744177664 → at + 6 * length (take (length raw - 1) raw) ≤ 70368744177664
+    cr-asks at k = omega (arith, cr-length)
+
+    pub cr-put : (room : List ℕ) (p r : Progress) (after : List ℕ) → Passes (take (length raw - 1) raw ∷ []) room p r after
+        → Passes (withoutCr raw ∷ []) room p r after
+    unfolding withoutCr
+    cr-put room p r after q = simp (sym e ∙ h) q
+
+  pub plain-put : b ≡ false → (room : List ℕ) (p r : Progress) (after : List ℕ) → Passes (raw ∷ []) room p r after → Passes (withoutCr raw ∷ []) room p r after
+  unfolding withoutCr
+  plain-put h room p r after q = simp (sym e ∙ h) q
+
+-- `keep`
+module _ (memory part : List ℕ) (len n : ℕ) (m : length memory ≡ 4098) (h : len ≤ 4098) (e : n ≡ min (length part) (4098 - len)) where
+  pub keep-length : n ≡ length (take n part)
+  keep-length = sym (length-take-le n part (omega arith))
+
+  pub keep-asks : len + length (take n part) ≤ 65536
+  keep-asks = omega (arith, keep-length)
+
+  keep-taken : take n part ≡ take (4098 - len) part
+  keep-taken =
+      by-bool (ltb (length part) (4098 - len))
+      (λ c. let k = ltb-true (length part) (4098 - len) c in take-all n part (omega arith) ∙ sym (take-all (4098 - len) part (omega arith)))
+      (λ c. let k = ltb-false (length part) (4098 - len) c in let i : n ≡ 4098 - len = omega arith in ap (λ (j : ℕ). take j part) i)
+
+  keep-stored : sets memory len (take n part) ≡ sets memory len part
+  keep-stored =
+      by-bool (ltb (length part) (4098 - len))
+      (λ c. let k = ltb-true (length part) (4098 - len) c in ap (sets memory len) (take-all n part (omega arith)))
+      (λ c.
+      let k = ltb-false (length part) (4098 - len) c in
+      sym
+      (ap (sets memory len) (sym (take-append-drop n part))
+      ∙ sets-append memory len (take n part) (drop n part)
+      ∙ sets-behind (sets memory len (take n part)) (len + length (take n part)) (drop n part)
+      (omega (arith, length-sets memory len (take n part), keep-length))))
+
+  pub keep-done : (r : ℕ) (after : List ℕ) → Put (length (take n part)) memory len (take n part) r after → Keeps memory len part r after
+  keep-done r after p =
+      let d : length (take len memory) ≡ len = length-take-le len memory (omega arith) in
+      let f : length (take len memory ++ take n part) ≡ r = omega (arith, length-append (take len memory) (take n part), p .place) in
+      let g : len + (4098 - len) ≡ 4098 = omega arith in
+      record {
+        short = omega (arith, p .place, keep-length);
+        begun =
+            ap (take r) (p .bytes ∙ sets-eq (take n part) memory len (omega (arith, keep-length)))
+            ∙ take-at (take len memory ++ take n part) (drop (len + length (take n part)) memory) r f
+            ∙ ap (λ (x : List ℕ). take len memory ++ x) keep-taken
+            ∙ sym (rw (d, g) at (take-append-add (take len memory) part (4098 - len)));
+        stored = p .bytes ∙ keep-stored;
+      }
+
+-- `end_line`
+passes-alike : {room after : List ℕ} {p r : Progress} (x y : List ℕ) → replyTo x ≡ replyTo y → Passes (x ∷ []) room p r after → Passes (y ∷ []) room p r after
+unfolding printed countedAll
+passes-alike {p = p} x y e q =
+    record {
+      put = rw (ap (λ (a : Reply). a .says) e) at (q .put);
+      totals = q .totals ∙ ap (λ (a : Reply). counted (p .totals) (a .kind)) e;
+    }
+
+module _ (memory : List ℕ) (len : ℕ) (part room : List ℕ) (p r : Progress) (room′ : List ℕ) where
+  pub end-whole : len ≡ 0 → Passes (withoutCr part ∷ []) room p r room′ → Ends memory len part room p r memory room′
+  end-whole e q = rw e (record { passes = q; stored = refl })
+
+  module _ (n : ℕ) (memory′ : List ℕ) (k : Keeps memory len part n memory′) where
+    pub end-length : length memory ≡ 4098 → n ≡ length (take n memory′)
+    end-length m = sym (length-take-le n memory′ (omega (arith, k .short, ap length (k .stored), length-sets memory len part)))
+
+    pub end-asks : (at : ℕ) → at + 6 * (length part + 4098) ≤ 70368744177664 → at + 6 * length (take n memory′) ≤ 70368744177664
+    end-asks at h = omega (arith, k .short, length-take n memory′)
+
+    pub end-grown : (len ≡ 0 → ⊥) → Passes (withoutCr (take n memory′) ∷ []) room p r room′ → Ends memory len part room p r memory′ room′
+    end-grown e q =
+        let raw = take len memory ++ part in
+        record {
+          passes =
+              passes-alike (withoutCr (take n memory′)) (withoutCr raw)
+              (ended-alike (take n memory′) raw (ap (take 4098) (k .begun) ∙ first-alike raw)) q;
+          stored = k .stored ∙ sym (simp (ne-eqb len 0 e));
+        }
+
+-- lines and then others
+counted-append : (t : Totals) (a b : List (List ℕ)) → countedAll (countedAll t a) b ≡ countedAll t (a ++ b)
+unfolding countedAll
+counted-append t [] b = refl
+counted-append t (l ∷ a) b = counted-append (counted t (replyTo l .kind)) a b
+
+passes-then : {a b : List (List ℕ)} {room m after : List ℕ} {p q r : Progress} → Passes a room p q m → Passes b m q r after → Passes (a ++ b) room p r after
+passes-then {a} {b} {p = p} x y =
+    record {
+      put = rw (printed-append a b) (prints-then (x .put) (y .put));
+      totals = y .totals ∙ ap (λ (t : Totals). countedAll t b) (x .totals) ∙ counted-append (p .totals) a b;
+    }
+
+-- `run`: the lines `done` are answered, and those that are to come, the open line and the memory are settled by what is left of the fragment
+pub record Run (memory₀ : List ℕ) (begun : ℕ) (s room₀ : List ℕ) (t : Totals) (memory room : List ℕ) (past : Progress) (len i e : ℕ) : Type 0 where
+  pub size : length memory ≡ 4098
+  pub short : len ≤ 4098
+  pub within : i ≤ length s
+  pub next : e ≡ i + before 10 (drop i s)
+  pub done : List (List ℕ)
+  pub passes : Passes done room₀ (progress 0 t) past room
+  pub lines : done ++ endedFrom (take len memory) (drop i s) ≡ endedFrom (take begun memory₀) s
+  pub last : openFrom (take len memory) (drop i s) ≡ openFrom (take begun memory₀) s
+  pub stored : memoryAfter len memory (drop i s) ≡ memoryAfter begun memory₀ s
+
+pub run-start : (memory : List ℕ) (begun : ℕ) (s room : List ℕ) (t : Totals) (e : ℕ) → length memory ≡ 4098 → begun ≤ 4098 → e ≡ before 10 s
+    → Run memory begun s room t memory room (progress 0 t) begun 0 e
+unfolding printed countedAll
+run-start memory begun s room t e m h f =
+    record {
+      size = m;
+      short = h;
+      within = omega arith;
+      next = omega arith;
+      done = [];
+      passes = record { put = record { place = refl; size = refl; bytes = λ k. refl }; totals = refl };
+      lines = refl;
+      last = refl;
+      stored = refl;
+    }
+
+-- an LF at n ends the open line of s; no LF at all
+module _ (len : ℕ) (memory s : List ℕ) (n : ℕ) (e : n ≡ before 10 s) where
+  module _ (h : n < length s) where
+    stored-first : (memory′ : List ℕ) → memory′ ≡ memoryAtEnd len memory (take n s) → memoryAfter 0 memory′ (drop (suc n) s) ≡ memoryAfter len memory s
+    unfolding memoryAfter
+    stored-first memory′ f =
+        let o : openFrom [] s ≡ openFrom [] (drop (suc n) s) = rw e (open-first [] s (omega arith)) in
+        let first : memoryAfter len memory s ≡ sets memory′ 0 (openFrom [] (drop (suc n) s)) =
+        rw (← e, lt-ltb n (length s) h, f, o) refl in
+        by-bool (ltb (before 10 (drop (suc n) s)) (length (drop (suc n) s))) (λ c. simp c (sym first))
+        (λ c. simp c (sym (first ∙ ap (sets memory′ 0) (open-none [] (drop (suc n) s) (ltb-false (before 10 (drop (suc n) s)) (length (drop (suc n) s)) c)))))
+
+  module _ (h : length s ≤ n) where
+    stored-none : memoryAfter len memory s ≡ sets memory len s
+    unfolding memoryAfter
+    stored-none = rw (← e, le-ltb n (length s) h) refl
+
+module _ {memory₀ : List ℕ} {begun : ℕ} {s room₀ : List ℕ} {t : Totals} {memory room : List ℕ} {past : Progress} {len i e : ℕ}
+    (v : Run memory₀ begun s room₀ t memory room past len i e) where
+  here : e - i ≡ before 10 (drop i s)
+  here = omega (arith, v .next)
+
+  left : length (drop i s) ≡ length s - i
+  left = length-drop i s
+
+  -- what was printed is no longer than all that is to print
+  pub run-asks : length s ≤ 4294967295 → begun ≤ 4098 → past .at + 6 * (length (take (e - i) (drop i s)) + 4098) ≤ 70368744177664
+  run-asks h b =
+      let n : length (printed (v .done)) ≤ length (printed (endedFrom (take begun memory₀) s)) =
+      omega (arith, ap (λ (ls : List (List ℕ)). length (printed ls)) (v .lines), ap length (printed-append (v .done) (endedFrom (take len memory) (drop i s))), length-append (printed (v .done)) (printed (endedFrom (take len memory) (drop i s)))) in
+      omega (arith, v .passes .put .place, printed-bound (take begun memory₀) s, length-take begun memory₀, length-take (e - i) (drop i s), left)
+
+  module _ (h : e < length s) where
+    inside : e - i < length (drop i s)
+    inside = omega (arith, v .next, left)
+
+    behind : drop (suc (e - i)) (drop i s) ≡ drop (e + 1) s
+    behind = drop-drop (suc (e - i)) i s ∙ ap (λ (k : ℕ). drop k s) (let k : i + suc (e - i) ≡ e + 1 = omega (arith, v .next) in k)
+
+    pub find-fits : (r : ℕ) → length s ≤ 4294967295 → r ≡ before 10 (rest (e + 1) s) → Fits w64 (e + 1 + r)
+    find-fits r l f = record { fits = omega (arith, before-le 10 (rest (e + 1) s), length-take (length s - (e + 1)) (drop (e + 1) s)) }
+
+    pub run-turn : (memory′ room′ : List ℕ) (past′ : Progress) (r : ℕ) → length memory′ ≡ length memory → Ends memory len (take (e - i) (drop i s)) room past past′ memory′ room′
+        → r ≡ before 10 (rest (e + 1) s) → Run memory₀ begun s room₀ t memory′ room′ past′ 0 (e + 1) (e + 1 + r)
+    run-turn memory′ room′ past′ r m w f =
+        let q = take len memory in
+        let line = withoutCr (q ++ take (e - i) (drop i s)) in
+        let first : endedFrom q (drop i s) ≡ line ∷ endedFrom [] (drop (e + 1) s) =
+        rw (← behind, here) (ended-first q (drop i s) (omega (arith, inside, here))) in
+        let second : openFrom q (drop i s) ≡ openFrom [] (drop (e + 1) s) =
+        rw (← behind, here) (open-first q (drop i s) (omega (arith, inside, here))) in
+        record {
+          size = m ∙ v .size;
+          short = omega arith;
+          within = omega arith;
+          next = omega (arith, ap (before 10) (rest-is (e + 1) s));
+          done = v .done ++ (line ∷ []);
+          passes = passes-then (v .passes) (w .passes);
+          lines = append-snoc (v .done) line (endedFrom [] (drop (e + 1) s)) ∙ ap (λ (ls : List (List ℕ)). v .done ++ ls) (sym first) ∙ v .lines;
+          last = sym second ∙ v .last;
+          stored = ap (memoryAfter 0 memory′) (sym behind) ∙ stored-first len memory (drop i s) (e - i) here inside memory′ (w .stored) ∙ v .stored;
+        }
+
+  module _ (h : length s ≤ e) where
+    none : length (drop i s) ≤ before 10 (drop i s)
+    none = omega (arith, v .next, left, v .within)
+
+    pub run-end : (n : ℕ) (memory′ : List ℕ) → Keeps memory len (rest i s) n memory′ → Runs memory₀ begun s room₀ t (record { len = n; past = past }) memory′ room
+    run-end n memory′ k =
+        let q = take len memory in
+        let all : v .done ≡ endedFrom (take begun memory₀) s =
+        sym (append-nil (v .done)) ∙ ap (λ (ls : List (List ℕ)). v .done ++ ls) (sym (ended-none q (drop i s) none)) ∙ v .lines in
+        record {
+          passes = rw all at (v .passes);
+          short = k .short;
+          begun = k .begun ∙ ap (λ (x : List ℕ). take 4098 (q ++ x)) (rest-is i s) ∙ ap (take 4098) (sym (open-none q (drop i s) none) ∙ v .last);
+          stored = k .stored ∙ ap (sets memory len) (rest-is i s) ∙ sym (stored-none len memory (drop i s) (before 10 (drop i s)) refl none) ∙ v .stored;
+        }
+
+-- `put_totals`
+module _ (room part : List ℕ) (p : Progress) (from n : ℕ) (q : Put 86 (rest from room) 0 (totalsText (p .totals)) n part) where
+  pub totals-fits : p .at ≤ 70368744177664 → Fits w64 (p .at + n)
+  totals-fits h = record { fits = omega (arith, q .place, q .bound) }
+
+  pub totals-put : from ≡ min (p .at) (length room) → length part ≡ length (rest from room)
+      → Prints (totalsText (p .totals)) room (p .at) (p .at + n) (putMid from (length room - from) room part)
+  totals-put f size =
+      let e : n ≡ length (totalsText (p .totals)) = omega (arith, q .place) in
+      rw e (in-part (totalsText (p .totals)) room part (p .at) from f size (put-front q))
+
+-- `finish`
+module _ (last room : List ℕ) (t : Totals) (end : ℕ) (after : List ℕ) where
+  pub finish-none : length last ≡ 0 → Prints (totalsText t) room 0 end after → Finishes last room t (progress end t) after
+  unfolding printed countedAll lastLine
+  finish-none h p = go last h
+    where
+      go : (l : List ℕ) → length l ≡ 0 → Finishes l room t (progress end t) after
+      go [] e = record { put = p; totals = refl }
+      go (b ∷ l) e = absurd (omega arith)
+
+  module _ (p : Progress) (m : List ℕ) (q : Passes (last ∷ []) room (progress 0 t) p m) where
+    pub finish-asks : length last ≤ 4098 → p .at ≤ 70368744177664
+    finish-asks h = omega (arith, q .put .place, ap length (printed-one last), reply-bound last)
+
+    pub finish-last : (length last ≡ 0 → ⊥) → Prints (totalsText (p .totals)) m (p .at) end after → Finishes last room t (progress end (p .totals)) after
+    unfolding lastLine printed
+    finish-last h w = go last h q
+      where
+        go : (l : List ℕ) → (length l ≡ 0 → ⊥) → Passes (l ∷ []) room (progress 0 t) p m → Finishes l room t (progress end (p .totals)) after
+        go [] e x = absurd (e refl)
+        go (b ∷ l) e x = record { put = rw (← x .totals) (prints-then (x .put) w); totals = x .totals }
+
+-- `finish_length`
+pub finish-measured : (last none : List ℕ) (t : Totals) (r : Progress) (none′ : List ℕ) → Finishes last none t r none′ → r .at ≡ length (finishText last t)
+finish-measured last none t r none′ w = w .put .place ∙ zero-add (length (finishText last t))
+
+-- `fits`
+module _ (begun s : List ℕ) (room : ℕ) where
+  pub fits-surely : 6 * (length begun + length s) ≤ room → true ≡ leb (length (printed (endedFrom begun s))) room
+  fits-surely h = sym (le-leb (length (printed (endedFrom begun s))) room (omega (arith, printed-bound begun s)))
+
+  pub fits-measured : length begun ≤ 4098 → (zeros memory : List ℕ) (len : ℕ) → Keeps zeros 0 begun len memory
+      → (t : Totals) (r : Ran) (none memory′ none′ : List ℕ) → Runs memory len s none t r memory′ none′
+      → leb (r .past .at) room ≡ leb (length (printed (endedFrom begun s))) room
+  fits-measured h zeros memory len k t r none memory′ none′ w =
+      let e : take len memory ≡ begun = k .begun ∙ take-all 4098 begun h in
+      ap (λ (n : ℕ). leb n room) (w .passes .put .place ∙ zero-add (length (printed (endedFrom (take len memory) s))))
+      ∙ ap (λ (q : List ℕ). leb (length (printed (endedFrom q s))) room) e
+
+-- `start`
+pub start-state : record { len = 0; totals = record { lines = 0; ok = 0; no = 0; other = 0; long = 0 }; read = 0; closed = false } ≡ stateOf (readerOf [])
+unfolding readerOf openFrom endedFrom totalsOf
+start-state = refl
+
+-- What a call does, by its outcome.
+module _ {o : Outcome} {next : Reader} {kept : List ℕ} {state : State} {memory room : List ℕ} where
+  does-refuse : {why : Unfed} → o ≡ refuses why → Does o next kept state memory room (record { said = Refused why; state = state }) memory room
+  unfolding saidOf roomOf accepts
+  does-refuse e = rw e (record { said = refl; room = refl; memory = refl; state = refl; reader = refl })
+
+  module _ {t : List ℕ} (e : o ≡ prints t) where
+    does-nothing : length room < length t → Does o next kept state memory room (record { said = Refused NoRoom; state = state }) memory room
+    unfolding saidOf roomOf accepts
+    does-nothing h =
+        let f : leb (length t) (length room) ≡ false = lt-leb (length t) (length room) h in
+        rw e (record { said = simp f; room = simp f; memory = simp f; state = simp f; reader = simp f })
+
+    does-print : {n : ℕ} {state′ : State} {room′ : List ℕ} → length t ≤ length room → Prints t room 0 n room′ → state′ ≡ stateOf next → view state′ kept ≡ next
+        → Does o next kept state memory room (record { said = Filled n; state = state′ }) kept room′
+    unfolding saidOf roomOf accepts
+    does-print h p g v =
+        let f : leb (length t) (length room) ≡ true = le-leb (length t) (length room) h in
+        let n : _ ≡ length t = p .place ∙ zero-add (length t) in
+        let b : _ ≡ t ++ drop (length t) room = p .bytes (omega arith) ∙ sets-eq t room 0 (omega arith) ∙ ap (λ (k : ℕ). t ++ drop k room) (zero-add (length t)) in
+        rw e (record { said = simp (f, n); room = simp f b; memory = simp f; state = simp f g; reader = simp f v })
+
+-- the length of the open line, within the memory
+module _ (state : State) (memory : List ℕ) (len : ℕ) (e : len ≡ min (state .len) 4098) (m : length memory ≡ 4098) where
+  open-length : len ≡ length (take (state .len) memory)
+  open-length = omega (arith, length-take (state .len) memory)
+
+  open-same : take len memory ≡ take (state .len) memory
+  open-same =
+      by-bool (ltb 4098 (state .len))
+      (λ c. let k = ltb-true 4098 (state .len) c in take-all len memory (omega arith) ∙ sym (take-all (state .len) memory (omega arith)))
+      (λ c. let k = ltb-false 4098 (state .len) c in let i : len ≡ state .len = omega arith in ap (λ (n : ℕ). take n memory) i)
+
+  pub open-taken : len ≡ length (take len memory)
+  open-taken = sym (length-take-le len memory (omega arith))
+
+  pub open-short : length (take len memory) ≤ 4098
+  open-short = omega (arith, length-take len memory)
+
+memory-length : (n : ℕ) (memory s : List ℕ) → length (memoryAfter n memory s) ≡ length memory
+unfolding memoryAfter
+memory-length n memory s =
+    by-bool (ltb (before 10 s) (length s))
+    (λ c. simp (c, length-sets) (by-bool (eqb n 0) (λ z. simp z) (λ z. simp (z, length-sets))))
+    (λ c. simp (c, length-sets))
+
+-- `feed`
+module _ (state : State) (memory s room : List ℕ) where
+  pub feed-closed : state .closed ≡ true → Feeds state memory s room (record { said = Refused Closed; state = state }) memory room
+  unfolding feedOutcome
+  feed-closed c = does-refuse (simp c)
+
+  module _ (c : state .closed ≡ false) where
+    pub feed-over : 4294967295 < state .read + length s → Feeds state memory s room (record { said = Refused OverLimit; state = state }) memory room
+    unfolding feedOutcome
+    feed-over h = does-refuse (simp (c, lt-ltb 4294967295 (state .read + length s) h))
+
+    module _ (h : state .read + length s ≤ 4294967295) (len : ℕ) (e : len ≡ min (state .len) 4098) (m : length memory ≡ 4098) (z : Bool)
+        (f : z ≡ leb (length (printed (endedFrom (take len memory) s))) (length room)) where
+      feed-prints : feedOutcome (view state memory) s ≡ prints (feedText (view state memory) s)
+      unfolding feedOutcome
+      feed-prints = simp (c, le-ltb 4294967295 (state .read + length s) h)
+
+      fits-same : z ≡ leb (length (feedText (view state memory) s)) (length room)
+      fits-same = f ∙ ap (λ (q : List ℕ). leb (length (printed (endedFrom q s))) (length room)) (open-same state memory len e m)
+
+      pub feed-short : z ≡ false → Feeds state memory s room (record { said = Refused NoRoom; state = state }) memory room
+      feed-short g = does-nothing feed-prints (leb-false (length (feedText (view state memory) s)) (length room) (sym fits-same ∙ g))
+
+      pub feed-done : z ≡ true → (r : Ran) (memory′ room′ : List ℕ) → Runs memory len s room (state .totals) r memory′ room′
+          → Feeds state memory s room (record { said = Filled (r .past .at); state = record { len = r .len; totals = r .past .totals; read = state .read + length s; closed = false } }) memory′ room′
+      unfolding fed
+      feed-done g r memory′ room′ w =
+          let o = open-same state memory len e m in
+          let q = take (state .len) memory in
+          let k : memory′ ≡ memoryAfter (length q) memory s = w .stored ∙ ap (λ (n : ℕ). memoryAfter n memory s) (open-length state memory len e m) in
+          let b : take (r .len) (memoryAfter (length q) memory s) ≡ take 4098 (openFrom q s) =
+          ap (take (r .len)) (sym k) ∙ w .begun ∙ ap (λ (x : List ℕ). take 4098 (openFrom x s)) o in
+          let n : r .len ≡ length (take 4098 (openFrom q s)) =
+          sym (length-take-le (r .len) (memoryAfter (length q) memory s) (omega (arith, w .short, memory-length (length q) memory s))) ∙ ap length b in
+          let t : r .past .totals ≡ countedAll (state .totals) (endedFrom q s) = w .passes .totals ∙ ap (λ (x : List ℕ). countedAll (state .totals) (endedFrom x s)) o in
+          rw k
+          (does-print feed-prints (leb-true (length (feedText (view state memory) s)) (length room) (sym fits-same ∙ g)) (rw o at (w .passes .put)) (cc (n, t)) (cc (b, t)))
+
+-- `close`
+module _ (state : State) (memory room : List ℕ) where
+  pub close-closed : state .closed ≡ true → Closes state memory room (record { said = Refused Closed; state = state }) room
+  unfolding closeOutcome
+  close-closed c = does-refuse (simp c)
+
+  module _ (c : state .closed ≡ false) (len : ℕ) (e : len ≡ min (state .len) 4098) (m : length memory ≡ 4098) (n : ℕ)
+      (f : n ≡ length (finishText (take len memory) (state .totals))) where
+    close-prints : closeOutcome (view state memory) ≡ prints (closeText (view state memory))
+    unfolding closeOutcome
+    close-prints = simp c
+
+    close-length : n ≡ length (closeText (view state memory))
+    unfolding closeText
+    close-length = rw (open-same state memory len e m) at f
+
+    pub close-short : length room < n → Closes state memory room (record { said = Refused NoRoom; state = state }) room
+    close-short h = does-nothing close-prints (omega (arith, close-length))
+
+    pub close-done : n ≤ length room → (r : Progress) (room′ : List ℕ) → Finishes (take len memory) room (state .totals) r room′
+        → Closes state memory room (record { said = Filled (r .at); state = record { len = 0; totals = r .totals; read = state .read; closed = true } }) room′
+    unfolding closeText closed
+    close-done h r room′ w =
+        let x = rw (open-same state memory len e m) at w in
+        does-print close-prints (omega (arith, close-length)) (x .put) (cc (x .totals)) (cc (x .totals))
+
+pub ruleset laws = (
+  line-fits,
+  line-put,
+  cr-some,
+  cr-length,
+  cr-asks,
+  cr-put,
+  plain-put,
+  keep-length,
+  keep-asks,
+  keep-done,
+  end-whole,
+  end-length,
+  end-asks,
+  end-grown,
+  run-start,
+  run-asks,
+  find-fits,
+  run-turn,
+  run-end,
+  totals-fits,
+  totals-put,
+  finish-none,
+  finish-asks,
+  finish-last,
+  finish-measured,
+  fits-surely,
+  fits-measured,
+  start-state,
+  open-taken,
+  open-short,
+  feed-closed,
+  feed-over,
+  feed-short,
+  feed-done,
+  close-closed,
+  close-short,
+  close-done,
+)

@@ -1,0 +1,288 @@
+// The reader of lines: a small state beside lent memory, that takes a text in fragments of any length. Each call prints into lent room what the
+// lines that end in it are answered with, or is refused and changes nothing.
+ghost use mathlib.Core.Path.{_≡_};
+ghost use mathlib.Core.List.{_∷_, []};
+ghost use Prim.Native.Nat.{_+_, _*_, _≤_, min};
+ghost use lib.Dec.{leb};
+ghost use lib.ListN.{length, take};
+ghost use Rattle.report.specs.Lines.{withoutCr, endedFrom};
+ghost use Rattle.report.specs.Report.{printed, totalsText};
+ghost use Rattle.report.specs.Reader.{readerOf};
+ghost use Rattle.lines.specs.View.{stateOf};
+ghost use Rattle.lines.specs.Call.{Feeds, Closes};
+ghost use Rattle.lines.specs.Steps.{Prints, Passes, Keeps, Ends, Runs, finishText, Finishes};
+use report::Totals;
+
+// How many bytes of the open line are kept: a line of so many is long whatever follows.
+const MOST_KEPT: usize = 4098;
+
+// How many bytes a text may have.
+const MOST_READ: usize = 4294967295;
+
+// The open line has `len` bytes at the memory's front; `totals` are those of the lines before it.
+pub struct State {
+    pub len: usize,
+    pub totals: Totals,
+    pub read: u32,
+    pub closed: bool,
+}
+
+// Why a call is refused: it comes after the closing one; the text would be too long; the room is too short.
+pub enum Unfed {
+    Closed,
+    OverLimit,
+    NoRoom,
+}
+
+// How many bytes of the room were filled, or why nothing was done.
+pub enum Said {
+    Filled(usize),
+    Refused(Unfed),
+}
+
+pub struct Fed {
+    pub said: Said,
+    pub state: State,
+}
+
+// The place behind what was printed, and the totals so far.
+struct Progress {
+    at: usize,
+    totals: Totals,
+}
+
+// What a fragment leaves: the length of the open line, and how far it came.
+struct Ran {
+    len: usize,
+    past: Progress,
+}
+
+fn least(a: usize, b: usize) -> usize
+    ensures { λ r. ⌜ r ≡ min a b ⌝ }
+{
+    if a < b { a } else { b }
+}
+
+// A line without its end is answered and counted. Where the room ends before the place, the answer is only measured.
+fn put_line(line: &[u8], room: &mut [u8], past: Progress) -> Progress
+    requires { ⌜ past .at + 6 * length (now line) ≤ 70368744177664 ⌝ }
+    ensures { λ r. ⌜ Passes (now (line .entry) ∷ []) (now (room .entry)) past r (now (room .exit)) ⌝ }
+{
+    let at = past.at;
+    let totals = past.totals;
+    let from = least(at, room.len());
+    let answered = answer::answer_line(line, &mut room[from..]);
+    let kind = answered.kind;
+    Progress {
+        at: at + answered.len,
+        totals: tally::count(totals, kind),
+    }
+}
+
+// The same of a line that an LF ended.
+fn put_ended(raw: &[u8], room: &mut [u8], past: Progress) -> Progress
+    requires { ⌜ past .at + 6 * length (now raw) ≤ 70368744177664 ⌝ }
+    ensures { λ r. ⌜ Passes (withoutCr (now (raw .entry)) ∷ []) (now (room .entry)) past r (now (room .exit)) ⌝ }
+{
+    if text::ends_in(raw, b'\r') {
+        let last = raw.len() - 1;
+        return put_line(&raw[..last], room, past);
+    }
+    put_line(raw, room, past)
+}
+
+// The open line grows by a part, of which as much is kept as the memory has room for. The line's new length is answered.
+fn keep(memory: &mut [u8], len: usize, part: &[u8]) -> usize
+    requires { ⌜ (length (now memory) ≡ 4098) × (len ≤ 4098) ⌝ }
+    ensures { λ r. ⌜ Keeps (now (memory .entry)) len (now (part .entry)) r (now (memory .exit)) ⌝ }
+{
+    let n = least(part.len(), MOST_KEPT - len);
+    room::put_bytes(memory, len, &part[..n])
+}
+
+// The open line ends with a part. Where all of it lies in the part, it is answered where it lies.
+fn end_line(memory: &mut [u8], len: usize, part: &[u8], room: &mut [u8], past: Progress) -> Progress
+    requires { ⌜ (length (now memory) ≡ 4098) × (len ≤ 4098) × (past .at + 6 * (length (now part) + 4098) ≤ 70368744177664) ⌝ }
+    ensures { λ r. ⌜ Ends (now (memory .entry)) len (now (part .entry)) (now (room .entry)) past r (now (memory .exit)) (now (room .exit)) ⌝ }
+{
+    if len == 0 {
+        return put_ended(part, room, past);
+    }
+    let n = keep(memory, len, part);
+    put_ended(&memory[..n], room, past)
+}
+
+// A fragment is read: its lines are answered from the room's front on, and what is open behind the last one is kept.
+fn run(memory: &mut [u8], begun: usize, text: &[u8], room: &mut [u8], totals: Totals) -> Ran
+    requires { ⌜ (length (now memory) ≡ 4098) × (begun ≤ 4098) × (length (now text) ≤ 4294967295) ⌝ }
+    ensures { λ r. ⌜ Runs (now (memory .entry)) begun (now (text .entry)) (now (room .entry)) totals r (now (memory .exit)) (now (room .exit)) ⌝ }
+{
+    let mut past = Progress { at: 0, totals };
+    let mut len = begun;
+    let mut i = 0;
+    let mut e = text::find(text, b'\n');
+    while e < text.len() {
+        past = end_line(memory, len, &text[i..e], room, past);
+        len = 0;
+        i = e + 1;
+        e = i + text::find(&text[i..], b'\n');
+    }
+    let n = keep(memory, len, &text[i..]);
+    Ran { len: n, past }
+}
+
+// The line of the totals is put behind what was printed.
+fn put_totals(room: &mut [u8], past: Progress) -> usize
+    requires { ⌜ past .at ≤ 70368744177664 ⌝ }
+    ensures { λ r. ⌜ Prints (totalsText (past .totals)) (now (room .entry)) (past .at) r (now (room .exit)) ⌝ }
+{
+    let at = past.at;
+    let totals = past.totals;
+    let from = least(at, room.len());
+    at + tally::put_totals(totals, &mut room[from..])
+}
+
+// The last line is answered, where there is one, and the totals follow.
+fn finish(last: &[u8], room: &mut [u8], totals: Totals) -> Progress
+    requires { ⌜ length (now last) ≤ 4098 ⌝ }
+    ensures { λ r. ⌜ Finishes (now (last .entry)) (now (room .entry)) totals r (now (room .exit)) ⌝ }
+{
+    let start = Progress { at: 0, totals };
+    if last.len() == 0 {
+        let end = put_totals(room, start);
+        return Progress { at: end, totals };
+    }
+    let past = put_line(last, room, start);
+    let all = past.totals;
+    let end = put_totals(room, past);
+    Progress {
+        at: end,
+        totals: all,
+    }
+}
+
+// How many bytes that prints, found by printing into no room.
+fn finish_length(last: &[u8], totals: Totals) -> usize
+    requires { ⌜ length (now last) ≤ 4098 ⌝ }
+    ensures { λ r. ⌜ r ≡ length (finishText (now (last .entry)) totals) ⌝ }
+{
+    let mut none = [0u8; 1];
+    let measured = finish(last, &mut none[..0], totals);
+    measured.at
+}
+
+fn zeros() -> [u8; 4098]
+    ensures { λ r. ⌜ 4098 ≡ length r ⌝ }
+{
+    [0; 4098]
+}
+
+// Whether so many bytes of room are enough for what a fragment prints. Where they are not surely enough, the fragment is run into no room, with
+// a copy of the open line.
+fn fits(begun: &[u8], text: &[u8], totals: Totals, room: usize) -> bool
+    requires { ⌜ (length (now begun) ≤ 4098) × (length (now text) ≤ 4294967295) ⌝ }
+    ensures { λ r. ⌜ r ≡ leb (length (printed (endedFrom (now (begun .entry)) (now (text .entry))))) room ⌝ }
+{
+    let most = 6 * (begun.len() + text.len());
+    if most <= room {
+        return true;
+    }
+    let mut copy = zeros();
+    let mut none = [0u8; 1];
+    let scratch: &mut [u8] = &mut copy;
+    let len = keep(scratch, 0, begun);
+    let ran = run(scratch, len, text, &mut none[..0], totals);
+    ran.past.at <= room
+}
+
+// The state before any text, beside memory of any contents.
+pub fn start() -> State
+    ensures { λ r. ⌜ r ≡ stateOf (readerOf []) ⌝ }
+{
+    State {
+        len: 0,
+        totals: Totals {
+            lines: 0,
+            ok: 0,
+            no: 0,
+            other: 0,
+            long: 0,
+        },
+        read: 0,
+        closed: false,
+    }
+}
+
+// A fragment of the text.
+pub fn feed(state: State, memory: &mut [u8; 4098], text: &[u8], room: &mut [u8]) -> Fed
+    ensures { λ r. ⌜ Feeds state (now (memory .entry)) (now (text .entry)) (now (room .entry)) r (now (memory .exit)) (now (room .exit)) ⌝ }
+{
+    let closed = state.closed;
+    if closed {
+        return Fed {
+            said: Said::Refused(Unfed::Closed),
+            state,
+        };
+    }
+    let all = state.read as usize + text.len();
+    if MOST_READ < all {
+        return Fed {
+            said: Said::Refused(Unfed::OverLimit),
+            state,
+        };
+    }
+    let line: &mut [u8] = memory;
+    let len = least(state.len, MOST_KEPT);
+    let totals = state.totals;
+    if fits(&line[..len], text, totals, room.len()) {
+        let ran = run(line, len, text, room, totals);
+        let past = ran.past;
+        let after = past.totals;
+        return Fed {
+            said: Said::Filled(past.at),
+            state: State {
+                len: ran.len,
+                totals: after,
+                read: all as u32,
+                closed: false,
+            },
+        };
+    }
+    Fed {
+        said: Said::Refused(Unfed::NoRoom),
+        state,
+    }
+}
+
+// The end of the text: the last line, where there is one, and the totals.
+pub fn close(state: State, memory: &[u8; 4098], room: &mut [u8]) -> Fed
+    ensures { λ r. ⌜ Closes state (now (memory .entry)) (now (room .entry)) r (now (room .exit)) ⌝ }
+{
+    let closed = state.closed;
+    if closed {
+        return Fed {
+            said: Said::Refused(Unfed::Closed),
+            state,
+        };
+    }
+    let line: &[u8] = memory;
+    let len = least(state.len, MOST_KEPT);
+    let totals = state.totals;
+    if room.len() < finish_length(&line[..len], totals) {
+        return Fed {
+            said: Said::Refused(Unfed::NoRoom),
+            state,
+        };
+    }
+    let done = finish(&line[..len], room, totals);
+    let after = done.totals;
+    Fed {
+        said: Said::Filled(done.at),
+        state: State {
+            len: 0,
+            totals: after,
+            read: state.read,
+            closed: true,
+        },
+    }
+}

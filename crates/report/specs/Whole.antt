@@ -1,0 +1,28 @@
+-- What holds of every report, and of every text however it is cut. `proofs/Whole.antt` proves each of these statements.
+use Prim.Native.Nat.{ℕ, _+_, _≤_}
+use mathlib.Core.Path.{_≡_}
+use mathlib.Core.List.{List, [], _++_}
+use lib.ListN.{length, take}
+use Rattle.report.specs.Lines.{withoutCr}
+use Rattle.report.specs.Reply.{replyTo}
+use Rattle.report.specs.Report.{totalsOf, report}
+use Rattle.report.specs.Reader.{readerOf, fedAll, session, joined}
+
+-- each line is counted, and under one kind
+abbrev pub EachCounted : Type 0
+EachCounted = (ls : List (List ℕ)) → totalsOf ls .lines ≡ length ls
+
+abbrev pub TotalsAdd : Type 0
+TotalsAdd = (ls : List (List ℕ)) → totalsOf ls .lines ≡ totalsOf ls .ok + totalsOf ls .no + totalsOf ls .other + totalsOf ls .long
+
+-- of a line its first 4,098 bytes decide, whether an LF ends it or not
+abbrev pub FirstBytesDecide : Type 0
+FirstBytesDecide = (l : List ℕ) → (replyTo (withoutCr (take 4098 l)) ≡ replyTo (withoutCr l)) × (replyTo (take 4098 l) ≡ replyTo l)
+
+-- however a text within the limit is cut, even between CR and LF, the reader stands for the text so far, and what the calls print, one after
+-- another, is the report of the whole text
+abbrev pub ReaderOfAll : Type 0
+ReaderOfAll = (fragments : List (List ℕ)) → length (joined fragments) ≤ 4294967295 → fedAll (readerOf []) fragments ≡ readerOf (joined fragments)
+
+abbrev pub AnyCutting : Type 0
+AnyCutting = (fragments : List (List ℕ)) → length (joined fragments) ≤ 4294967295 → session (readerOf []) fragments ≡ report (joined fragments)
