@@ -63,7 +63,7 @@ fn put_refusal(room: &mut [u8], refusal: Refusal) -> usize
     put_number(room, len, place.len as u64, b'\n')
 }
 
-fn answer_refusal(refusal: Refusal, room: &mut [u8]) -> Answered
+pub fn answer_refusal(refusal: Refusal, room: &mut [u8]) -> Answered
     ensures { λ r. ⌜ Answers (noReply refusal) (now (room .entry)) r (now (room .exit)) ⌝ }
 {
     let mut text = [0u8; 66];
@@ -73,7 +73,7 @@ fn answer_refusal(refusal: Refusal, room: &mut [u8]) -> Answered
 
 // How long the text is that was written, or that there was no room for. A record just read is not refused for its value or its places, so 0 is
 // never given for these.
-fn text_length(wrote: Wrote) -> usize
+pub fn text_length(wrote: Wrote) -> usize
     ensures { λ r. ⌜ r ≡ textLength wrote ⌝ }
 {
     match wrote {

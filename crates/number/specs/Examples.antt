@@ -6,7 +6,7 @@ use Rattle.text.specs.Example.{_gives_, Each}
 use Rattle.number.specs.declared.Number.the-variants.{Value, Refused}
 use Rattle.number.specs.declared.Reason.the-variants.{Empty, Digit, Size}
 use Rattle.number.specs.Decimal.{allDigits, valueFrom, digitsOf, numberOf, digitsIn, decimal}
-use Rattle.number.specs.Hex.{hexDigit, hexCapital}
+use Rattle.number.specs.Hex.{hexDigit, hexCapital, hexSmall, hexCapitals, hexBytes}
 
 -- a domain, at most 127
 domains : Each (numberOf 127) (
@@ -62,3 +62,11 @@ written = refl
 capitals : Each hexCapital (0 gives 48 ∷ 9 gives 57 ∷ 10 gives 65 ∷ 15 gives 70 ∷ [])
 unfolding hexCapital
 capitals = refl
+
+numbers-of-base-16 : Each (hexCapitals 16) (0 gives word "0000000000000000" ∷ 4154453008472067025 gives word "39A794FFFE07CBD1" ∷ [])
+unfolding hexCapitals hexCapital
+numbers-of-base-16 = refl
+
+texts-of-base-16 : Each hexBytes (word "" gives word "" ∷ word "gps" gives word "677073" ∷ (0 ∷ 255 ∷ []) gives word "00ff" ∷ [])
+unfolding hexBytes hexSmall
+texts-of-base-16 = refl

@@ -14,7 +14,7 @@ use Rattle.text.proofs.Cuts.{bytes-short}
 use Rattle.number.specs.Decimal.{decimal}
 use Rattle.number.proofs.Written.{decimal-one, decimal-more, decimal-length}
 use borrow.Author.Tests.{lt-ltb, le-ltb}
-use Rattle.number.specs.Hex.{hexCapital}
+use Rattle.number.specs.Hex.{hexCapital, hexSmall, hexCapitals, hexBytes}
 use Rattle.eui64.specs.Eui64.{segmentText, segmentsText, eui64Text}
 use Rattle.room.specs.Put.{Put}
 
@@ -114,6 +114,14 @@ module _ (v : Lent) (p : Place) (part : Lent) (is : PartAt v p part) (at : ℕ) 
       → Put (length (v .now)) l at (bytesAt p (v .now)) next m
   part-put l next m q = rw (is .bytes) at (put-wider q short)
 
+-- a byte stored right before those that stand from `first` on
+drop-set : (l : List ℕ) (first b : ℕ) → 0 < first → first ≤ length l → drop (first - 1) (set l (first - 1) b) ≡ b ∷ drop first l
+drop-set l first b h k =
+    let f : suc (first - 1) ≡ first = omega arith in
+    ap (drop (first - 1)) (set-split l (first - 1) b (omega arith))
+    ∙ drop-at (take (first - 1) l) (b ∷ drop (suc (first - 1)) l) (first - 1) (length-take-le (first - 1) l (omega arith))
+    ∙ ap (λ (n : ℕ). b ∷ drop n l) f
+
 -- `put_digits`: the digits of n are those of what is left, and those that stand from `first` on
 pub record Spelled (n : ℕ) (digits : List ℕ) (first left : ℕ) : Type 0 where
   pub size : length digits ≡ 20
@@ -149,12 +157,6 @@ module _ {n : ℕ} {digits : List ℕ} {first left : ℕ} (p : Spelled n digits 
     pub spelled-next : Spelled n (set digits (first - 1) (48 + left % 10)) (first - 1) (left / 10)
     spelled-next =
         let d : ℕ = 48 + left % 10 in
-        let i : first - 1 < length digits = omega (arith, spelled-first, p .size, p .within) in
-        let f : suc (first - 1) ≡ first = omega (arith, spelled-first) in
-        let e : drop (first - 1) (set digits (first - 1) d) ≡ d ∷ drop first digits =
-        ap (drop (first - 1)) (set-split digits (first - 1) d i)
-        ∙ drop-at (take (first - 1) digits) (d ∷ drop (suc (first - 1)) digits) (first - 1) (length-take-le (first - 1) digits (omega arith))
-        ∙ ap (λ (k : ℕ). d ∷ drop k digits) f in
         record {
           size = length-set digits (first - 1) d ∙ p .size;
           within = omega (arith, p .within);
@@ -165,7 +167,7 @@ module _ {n : ℕ} {digits : List ℕ} {first left : ℕ} (p : Spelled n digits 
               p .so-far
               ∙ ap (λ (s : List ℕ). s ++ drop first digits) longer
               ∙ append-assoc (decimal (left / 10)) (d ∷ []) (drop first digits)
-              ∙ ap (λ (s : List ℕ). decimal (left / 10) ++ s) (sym e);
+              ∙ ap (λ (s : List ℕ). decimal (left / 10) ++ s) (sym (drop-set digits first d (omega (arith, spelled-first)) (omega (arith, p .size, p .within))));
         }
 
   module _ (h : left < 10) where
@@ -281,6 +283,91 @@ module _ (at a b last : ℕ) (l m n r : List ℕ) (dash : Put 1 m a (45 ∷ []) 
       low : segmentsText 3 (id % 4294967296) ≡ segmentsText 3 id
       low = segments-low 3 id
 
+-- `put_hex_u64`: the digits of n are those of what is left, and those that stand from `first` on
+pub record InHex (n : ℕ) (digits : List ℕ) (first left : ℕ) : Type 0 where
+  pub size : length digits ≡ 16
+  pub within : first ≤ 16
+  pub so-far : hexCapitals 16 n ≡ hexCapitals first left ++ drop first digits
+
+pub in-hex-start : (n : ℕ) (digits : List ℕ) → length digits ≡ 16 → InHex n digits 16 n
+in-hex-start n digits e =
+    let f : drop 16 digits ≡ [] = ap (λ (k : ℕ). drop k digits) (sym e) ∙ drop-length digits in
+    record { size = e; within = omega arith; so-far = sym (rw f (append-nil (hexCapitals 16 n))) }
+
+hex-longer : (k n x : ℕ) → 0 < k → x ≡ hexCapital (n % 16) → hexCapitals k n ≡ hexCapitals (k - 1) (n / 16) ++ x ∷ []
+unfolding hexCapitals
+hex-longer k n x h e =
+    let f : k ≡ suc (k - 1) = omega arith in
+    ap (λ (j : ℕ). hexCapitals j n) f ∙ ap (λ (y : ℕ). hexCapitals (k - 1) (n / 16) ++ y ∷ []) (sym e)
+
+hex-none : (k n : ℕ) (digits : List ℕ) → k ≤ 0 → hexCapitals k n ++ drop k digits ≡ digits
+unfolding hexCapitals
+hex-none k n digits h = let f : k ≡ 0 = omega arith in ap (λ (j : ℕ). hexCapitals j n ++ drop j digits) f
+
+module _ {n : ℕ} {digits : List ℕ} {first left : ℕ} (p : InHex n digits first left) where
+  pub in-hex-next : (x : ℕ) → 0 < first → x ≡ hexCapital (left % 16) → InHex n (set digits (first - 1) x) (first - 1) (left / 16)
+  in-hex-next x h e =
+      record {
+        size = length-set digits (first - 1) x ∙ p .size;
+        within = omega (arith, p .within);
+        so-far =
+            p .so-far
+            ∙ ap (λ (s : List ℕ). s ++ drop first digits) (hex-longer first left x h e)
+            ∙ append-assoc (hexCapitals (first - 1) (left / 16)) (x ∷ []) (drop first digits)
+            ∙ ap (λ (s : List ℕ). hexCapitals (first - 1) (left / 16) ++ s) (sym (drop-set digits first x h (omega (arith, p .size, p .within))));
+      }
+
+  pub in-hex-asks : (at : ℕ) → at + 16 ≤ 65536 → at + length digits ≤ 65536
+  in-hex-asks at h = omega (arith, p .size)
+
+  pub in-hex-end : (at next : ℕ) (l m : List ℕ) → first ≤ 0 → Put (length digits) l at digits next m → Put 16 l at (hexCapitals 16 n) next m
+  in-hex-end at next l m h q = rw (p .so-far, hex-none first left digits h) (put-wider q (omega (arith, p .size)))
+
+-- `hex_small`
+pub small-digit : (d : ℕ) → d < 10 → 48 + d ≡ hexSmall d
+unfolding hexSmall
+small-digit d h = simp (lt-ltb d 10 h)
+
+pub small-letter : (d : ℕ) → 10 ≤ d → 97 + (d - 10) ≡ hexSmall d
+unfolding hexSmall
+small-letter d h = simp (le-ltb d 10 h)
+
+-- `put_hex_byte`
+pub hex-byte-put : (b x y at next last : ℕ) (l m r : List ℕ) → x ≡ hexSmall (b / 16) → y ≡ hexSmall (b % 16)
+    → Put 1 l at (x ∷ []) next m → Put 1 m next (y ∷ []) last r → Put 2 l at (hexBytes (b ∷ [])) last r
+unfolding hexBytes
+hex-byte-put b x y at next last l m r e f p q = rw (← e, ← f) (put-then p q)
+
+-- `put_hex_bytes`: the first i bytes of the text s are put
+pub record HexPut (l : List ℕ) (at : ℕ) (s : List ℕ) (i to : ℕ) (m : List ℕ) : Type 0 where
+  pub within : i ≤ length s
+  pub size : length m ≡ length l
+  pub so-far : Put (2 * i) l at (hexBytes (take i s)) to m
+
+hex-append : (s t : List ℕ) → hexBytes (s ++ t) ≡ hexBytes s ++ hexBytes t
+unfolding hexBytes
+hex-append [] t = refl
+hex-append (b ∷ s) t = ap (λ (x : List ℕ). hexSmall (b / 16) ∷ hexSmall (b % 16) ∷ x) (hex-append s t)
+
+pub hex-start : (l : List ℕ) (at : ℕ) (s : List ℕ) → HexPut l at s 0 at l
+unfolding hexBytes
+hex-start l at s = record { within = omega arith; size = refl; so-far = put-none l at }
+
+module _ {l : List ℕ} {at : ℕ} {s : List ℕ} {i to : ℕ} {m : List ℕ} (p : HexPut l at s i to m) where
+  pub hex-asks : at + 2 * length s ≤ 65536 → i < length s → to + 2 ≤ 65536
+  hex-asks h k = omega (arith, p .so-far .place, p .so-far .bound)
+
+  pub hex-more : (next : ℕ) (r : List ℕ) → i < length s → Put 2 m to (hexBytes (getD s i 0 ∷ [])) next r → HexPut l at s (i + 1) next r
+  hex-more next r h q =
+      record {
+        within = omega arith;
+        size = ap length (q .bytes) ∙ length-sets m to (hexBytes (getD s i 0 ∷ [])) ∙ p .size;
+        so-far = rw (add-one, take-suc s i 0, hex-append) (put-wider (put-then (p .so-far) q) (omega arith));
+      }
+
+  pub hex-end : length s ≤ i → Put (2 * length s) l at (hexBytes s) to m
+  hex-end h = let k : 2 * i ≤ 2 * length s = omega (arith, p .within) in rw (take-all i s h) at (put-wider (p .so-far) k)
+
 pub ruleset laws = (
   byte-behind,
   byte-stored,
@@ -306,4 +393,15 @@ pub ruleset laws = (
   two-put,
   four-put,
   eight-put,
+  in-hex-start,
+  in-hex-next,
+  in-hex-asks,
+  in-hex-end,
+  small-digit,
+  small-letter,
+  hex-byte-put,
+  hex-start,
+  hex-asks,
+  hex-more,
+  hex-end,
 )

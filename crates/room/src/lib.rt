@@ -3,11 +3,11 @@
 // no place overflows.
 ghost use mathlib.Core.Path.{_≡_};
 ghost use mathlib.Core.List.{_∷_, []};
-ghost use Prim.Native.Nat.{_+_, _≤_, _<_};
+ghost use Prim.Native.Nat.{_+_, _*_, _≤_, _<_};
 ghost use lib.ListN.{length};
 ghost use Rattle.text.specs.Place.{bytesAt};
 ghost use Rattle.number.specs.Decimal.{decimal};
-ghost use Rattle.number.specs.Hex.{hexCapital};
+ghost use Rattle.number.specs.Hex.{hexCapital, hexSmall, hexCapitals, hexBytes};
 ghost use Rattle.eui64.specs.Eui64.{segmentText, segmentsText, eui64Text};
 ghost use Rattle.room.specs.Put.{Put};
 use text::Place;
@@ -125,4 +125,53 @@ pub fn put_eui64(room: &mut [u8], at: usize, id: u64) -> usize
     let dash = put_four_segments(room, at, (id / 4294967296) as u32);
     let to = put_byte(room, dash, b'-');
     put_four_segments(room, to, (id % 4294967296) as u32)
+}
+
+// All sixteen digits of base 16 of a number, in capitals.
+pub fn put_hex_u64(room: &mut [u8], at: usize, n: u64) -> usize
+    requires { ⌜ at + 16 ≤ 65536 ⌝ }
+    ensures { λ r. ⌜ Put 16 (now (room .entry)) at (hexCapitals 16 n) r (now (room .exit)) ⌝ }
+{
+    let mut digits = [0u8; 16];
+    let mut first: usize = 16;
+    let mut left = n;
+    while 0 < first {
+        first -= 1;
+        digits[first] = hex_capital((left % 16) as u8);
+        left = left / 16;
+    }
+    put_bytes(room, at, &digits)
+}
+
+// The digit of base 16 that has the value `d`, a letter as a small one.
+fn hex_small(d: u8) -> u8
+    requires { ⌜ d < 16 ⌝ }
+    ensures { λ r. ⌜ r ≡ hexSmall d ⌝ }
+{
+    if d < 10 {
+        return b'0' + d;
+    }
+    b'a' + (d - 10)
+}
+
+fn put_hex_byte(room: &mut [u8], at: usize, b: u8) -> usize
+    requires { ⌜ at + 2 ≤ 65536 ⌝ }
+    ensures { λ r. ⌜ Put 2 (now (room .entry)) at (hexBytes (b ∷ [])) r (now (room .exit)) ⌝ }
+{
+    let to = put_byte(room, at, hex_small(b / 16));
+    put_byte(room, to, hex_small(b % 16))
+}
+
+// A text in base 16, two small digits a byte.
+pub fn put_hex_bytes(room: &mut [u8], at: usize, src: &[u8]) -> usize
+    requires { ⌜ at + 2 * length (now src) ≤ 65536 ⌝ }
+    ensures { λ r. ⌜ Put (2 * length (now (src .entry))) (now (room .entry)) at (hexBytes (now (src .entry))) r (now (room .exit)) ⌝ }
+{
+    let mut to = at;
+    let mut i = 0;
+    while i < src.len() {
+        to = put_hex_byte(room, to, src[i]);
+        i += 1;
+    }
+    to
 }

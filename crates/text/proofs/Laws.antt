@@ -31,34 +31,61 @@ module _ (b : ℕ) {s : List ℕ} {i : ℕ} (p : Passed (before b) s i) where
   unfolding before
   find-end h = passed-all p (ap (before b) (none-left s i h))
 
--- `pass_by_fours`
-pub fours-passed : (b : ℕ) (s : List ℕ) (i : ℕ) → (i ≤ length s) × (before b s ≡ i + before b (drop i s)) → Passed (before b) s i
-fours-passed b s i (h, e) = record { within = h; so-far = e }
+-- `pass_by_eights`: none of the first bytes of a turn is b
+pub eights-passed : (b : ℕ) (s : List ℕ) (i : ℕ) → (i ≤ length s) × (before b s ≡ i + before b (drop i s)) → Passed (before b) s i
+eights-passed b s i (h, e) = record { within = h; so-far = e }
 
-module _ (b : ℕ) {s : List ℕ} {i : ℕ} (p : Passed (before b) s i) where
-  module _ (h : 4 ≤ length s - i) (e : getD s i 0 ≡ b → ⊥) where
-    one : Passed (before b) s (i + 1)
-    one = find-next b p (omega arith) e
+module _ (b : ℕ) {s : List ℕ} {i : ℕ} (p : Passed (before b) s i) (h : 8 ≤ length s - i) (e0 : getD s i 0 ≡ b → ⊥) where
+  one : Passed (before b) s (i + 1)
+  one = find-next b p (omega arith) e0
 
-    pub fours-one : before b s ≡ i + 1 + before b (drop (i + 1) s)
-    fours-one = one .so-far
+  pub eights-one : before b s ≡ i + 1 + before b (drop (i + 1) s)
+  eights-one = one .so-far
 
-    module _ (f : getD s (i + 1) 0 ≡ b → ⊥) where
-      two : Passed (before b) s (i + 2)
-      two = let k : i + 1 + 1 ≡ i + 2 = omega arith in rw k at (find-next b one (omega arith) f)
+  module _ (e1 : getD s (i + 1) 0 ≡ b → ⊥) where
+    two : Passed (before b) s (i + 2)
+    two = let k : i + 1 + 1 ≡ i + 2 = omega arith in rw k at (find-next b one (omega arith) e1)
 
-      pub fours-two : before b s ≡ i + 2 + before b (drop (i + 2) s)
-      fours-two = two .so-far
+    pub eights-two : before b s ≡ i + 2 + before b (drop (i + 2) s)
+    eights-two = two .so-far
 
-      module _ (g : getD s (i + 2) 0 ≡ b → ⊥) where
-        three : Passed (before b) s (i + 3)
-        three = let k : i + 2 + 1 ≡ i + 3 = omega arith in rw k at (find-next b two (omega arith) g)
+    module _ (e2 : getD s (i + 2) 0 ≡ b → ⊥) where
+      three : Passed (before b) s (i + 3)
+      three = let k : i + 2 + 1 ≡ i + 3 = omega arith in rw k at (find-next b two (omega arith) e2)
 
-        pub fours-three : before b s ≡ i + 3 + before b (drop (i + 3) s)
-        fours-three = three .so-far
+      pub eights-three : before b s ≡ i + 3 + before b (drop (i + 3) s)
+      eights-three = three .so-far
 
-        pub fours-all : (getD s (i + 3) 0 ≡ b → ⊥) → Passed (before b) s (i + 4)
-        fours-all k = let j : i + 3 + 1 ≡ i + 4 = omega arith in rw j at (find-next b three (omega arith) k)
+      module _ (e3 : getD s (i + 3) 0 ≡ b → ⊥) where
+        four : Passed (before b) s (i + 4)
+        four = let k : i + 3 + 1 ≡ i + 4 = omega arith in rw k at (find-next b three (omega arith) e3)
+
+        pub eights-four : before b s ≡ i + 4 + before b (drop (i + 4) s)
+        eights-four = four .so-far
+
+        module _ (e4 : getD s (i + 4) 0 ≡ b → ⊥) where
+          five : Passed (before b) s (i + 5)
+          five = let k : i + 4 + 1 ≡ i + 5 = omega arith in rw k at (find-next b four (omega arith) e4)
+
+          pub eights-five : before b s ≡ i + 5 + before b (drop (i + 5) s)
+          eights-five = five .so-far
+
+          module _ (e5 : getD s (i + 5) 0 ≡ b → ⊥) where
+            six : Passed (before b) s (i + 6)
+            six = let k : i + 5 + 1 ≡ i + 6 = omega arith in rw k at (find-next b five (omega arith) e5)
+
+            pub eights-six : before b s ≡ i + 6 + before b (drop (i + 6) s)
+            eights-six = six .so-far
+
+            module _ (e6 : getD s (i + 6) 0 ≡ b → ⊥) where
+              seven : Passed (before b) s (i + 7)
+              seven = let k : i + 6 + 1 ≡ i + 7 = omega arith in rw k at (find-next b six (omega arith) e6)
+
+              pub eights-seven : before b s ≡ i + 7 + before b (drop (i + 7) s)
+              eights-seven = seven .so-far
+
+              pub eights-all : (getD s (i + 7) 0 ≡ b → ⊥) → Passed (before b) s (i + 8)
+              eights-all e7 = let k : i + 7 + 1 ≡ i + 8 = omega arith in rw k at (find-next b seven (omega arith) e7)
 
 -- `is_pair_at`
 not-first : (a b x : ℕ) (s : List ℕ) → (x ≡ a → ⊥) → startsPair a b (x ∷ s) ≡ false
@@ -223,11 +250,15 @@ pub ruleset laws = (
   find-here,
   find-next,
   find-end,
-  fours-passed,
-  fours-one,
-  fours-two,
-  fours-three,
-  fours-all,
+  eights-passed,
+  eights-one,
+  eights-two,
+  eights-three,
+  eights-four,
+  eights-five,
+  eights-six,
+  eights-seven,
+  eights-all,
   pair-first,
   pair-short,
   pair-second,

@@ -29,12 +29,12 @@ pub fn part(s: &[u8], p: Place) -> &[u8]
     &s[start..end]
 }
 
-// Passes bytes that are not `b`, four a turn, and stops at the first `b` or where fewer than four are left.
-fn pass_by_fours(s: &[u8], b: u8) -> usize
+// Passes bytes that are not `b`, eight a turn, and stops at the first `b` or where fewer than eight are left.
+fn pass_by_eights(s: &[u8], b: u8) -> usize
     ensures { λ r. ⌜ (r ≤ length (now (s .entry))) × (before b (now (s .entry)) ≡ r + before b (drop r (now (s .entry)))) ⌝ }
 {
     let mut i = 0;
-    while 4 <= s.len() - i {
+    while 8 <= s.len() - i {
         if s[i] == b {
             return i;
         }
@@ -47,7 +47,19 @@ fn pass_by_fours(s: &[u8], b: u8) -> usize
         if s[i + 3] == b {
             return i + 3;
         }
-        i += 4;
+        if s[i + 4] == b {
+            return i + 4;
+        }
+        if s[i + 5] == b {
+            return i + 5;
+        }
+        if s[i + 6] == b {
+            return i + 6;
+        }
+        if s[i + 7] == b {
+            return i + 7;
+        }
+        i += 8;
     }
     i
 }
@@ -56,7 +68,7 @@ fn pass_by_fours(s: &[u8], b: u8) -> usize
 pub fn find(s: &[u8], b: u8) -> usize
     ensures { λ r. ⌜ r ≡ before b (now (s .entry)) ⌝ }
 {
-    let mut i = pass_by_fours(s, b);
+    let mut i = pass_by_eights(s, b);
     while i < s.len() {
         if s[i] == b {
             return i;

@@ -14,8 +14,8 @@ Inv-loop s b i₀ i = Passed (before b) s i
 abbrev μ-loop : tie.MeasureT-loop
 μ-loop s b i₀ i = length s - i
 
-pass-by-fours-requires : tie.Need-pass-by-fours-requires Inv-loop μ-loop
-pass-by-fours-requires c κs = search needs
+pass-by-eights-requires : tie.Need-pass-by-eights-requires Inv-loop μ-loop
+pass-by-eights-requires c κs = search needs
 
 loop-holds : tie.Need-loop-holds Inv-loop μ-loop
 loop-holds c = search (needs, laws)
@@ -44,7 +44,7 @@ find-spec =
     (tie.spec
     Inv-loop
     μ-loop
-    pass-by-fours-requires
+    pass-by-eights-requires
     loop-holds
     shared-slice-read-if1
     returns

@@ -1,0 +1,3 @@
+-- The definitions that this crate's contracts cite, and an example of them.
+pub mod Line
+pub mod Examples

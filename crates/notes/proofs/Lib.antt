@@ -1,0 +1,3 @@
+pub mod PartsLaws
+pub mod ReferenceLaws
+pub mod MediaLaws
