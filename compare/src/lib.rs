@@ -20,7 +20,6 @@ pub mod made;
 pub mod module;
 pub mod notation;
 pub mod pipe;
-pub mod places;
 pub mod random;
 pub mod record;
 pub mod seeded;

@@ -18,12 +18,13 @@ enum Frame {
     Cut,
 }
 
-// What came of it: its value was accepted, or refused; or nothing more is read, since the input ended or a write failed, or was cut.
+// What came of it: its value was accepted, or refused; or nothing more is read, since the input ended, or was cut, or a write failed.
 enum Told {
     Ok,
     No,
     End,
     Cut,
+    Broken,
 }
 
 // Beside it, how many bytes at the front of the room are still to be printed.
@@ -100,7 +101,7 @@ fn hold_line(reference: bool, value: &[u8], room: &mut [u8], held: usize) -> Ste
     }
     if !print_held(room, held) {
         return Step {
-            told: Told::End,
+            told: Told::Broken,
             held: 0,
         };
     }
@@ -113,7 +114,7 @@ fn hold_line(reference: bool, value: &[u8], room: &mut [u8], held: usize) -> Ste
     }
     // never: there is room for the longest line
     Step {
-        told: Told::End,
+        told: Told::Broken,
         held: 0,
     }
 }
@@ -175,9 +176,13 @@ fn main() {
                 cut = true;
                 break;
             }
+            // what was not written has no counts
+            Told::Broken => return,
         }
     }
-    print_held(room, held);
+    if !print_held(room, held) {
+        return;
+    }
     if cut {
         say(b"cut\n");
     }

@@ -1,10 +1,9 @@
 -- One law for each way out of this crate's functions, and the invariant of the loop over a fragment. Assumes nothing.
-use Prim.Native.Nat.{ℕ, suc, _+_, _*_, _-_, _≤_, _<_, min}
+use Prim.Native.Nat.{ℕ, suc, _+_, _*_, _-_, _^_, _≤_, _<_, min}
 use mathlib.Core.Path.{_≡_, refl, sym, ap, _∙_}
 use mathlib.Core.List.{List, [], _∷_, _++_, append-assoc, append-nil}
-use mathlib.Core.Bool.{Bool, true, false, cond}
+use mathlib.Core.Bool.{Bool, true, false}
 use native.Mathlib.Nat.{zero-add}
-use native.Mathlib.Numerals.{add-one}
 use native.Mathlib.Omega.{arith}
 use lib.Dec.{eqb, leb, ltb}
 use lib.ListN.{length, take, drop, length-append, length-take, length-drop, take-append-drop}
@@ -12,7 +11,7 @@ use lib.Seq.{sets, sets-eq, length-sets, append-snoc, take-all, take-at, take-ap
 use borrow.Rule.Slice.PartMut.{putMid, post-is}
 use mir.Val.{Fits}
 use mir.Syntax.{w64}
-use borrow.Author.Tests.{eq-eqb, ne-eqb, le-leb, lt-leb, lt-ltb, le-ltb, leb-true, leb-false, ltb-true, ltb-false}
+use borrow.Author.Tests.{ne-eqb, le-leb, lt-leb, lt-ltb, le-ltb, leb-true, leb-false, ltb-true, ltb-false}
 use Rattle.text.specs.Find.{before}
 use Rattle.text.specs.Word.{endsIn}
 use Rattle.text.proofs.Bools.{by-bool}
@@ -25,13 +24,12 @@ use Rattle.report.specs.Reply.{Reply, replyTo}
 use Rattle.report.specs.Report.{printed, totalsOf, totalsText}
 use Rattle.report.specs.Reader.{Reader, readerOf, counted, countedAll, feedText, fed, closeText, closed}
 use Rattle.report.specs.declared.Totals.{Totals}
-use Rattle.report.proofs.Lines.{ended-first, open-first, ended-none, open-none, ended-alike, more-alike, first-alike}
+use Rattle.report.proofs.Lines.{without-short, ended-first, open-first, ended-none, open-none, ended-alike, first-alike}
 use Rattle.report.proofs.Bounds.{reply-bound}
 use Rattle.report.proofs.Printed.{printed-append, printed-bound}
 use Rattle.answer.specs.Answers.{Answers, withFront}
 use Rattle.answer.specs.declared.Answered.{Answered}
 use Rattle.lines.specs.declared.State.{State}
-use Rattle.lines.specs.declared.Fed.{Fed}
 use Rattle.lines.specs.declared.Said.the-variants.{Filled, Refused}
 use Rattle.lines.specs.declared.Unfed.{Unfed}
 use Rattle.lines.specs.declared.Unfed.the-variants.{Closed, OverLimit, NoRoom}
@@ -39,7 +37,7 @@ use Rattle.lines.specs.declared.Progress.{Progress}
 use Rattle.lines.specs.declared.Ran.{Ran}
 use Rattle.lines.specs.View.{view, stateOf, memoryAtEnd, memoryAfter}
 use Rattle.lines.specs.Call.{Outcome, prints, refuses, feedOutcome, closeOutcome, accepts, saidOf, roomOf, Does, Feeds, Closes}
-use Rattle.lines.specs.Steps.{Prints, progress, Passes, Keeps, Ends, Runs, finishText, Finishes}
+use Rattle.lines.specs.Steps.{Prints, Replies, progress, Passes, Keeps, Ends, Runs, finishText, Finishes}
 
 -- A text at the front of a part of the room, which begins at the place `at` or at the room's end if that comes first.
 module _ (t room part : List ℕ) (at from : ℕ) (f : from ≡ min at (length room)) (size : length part ≡ length (rest from room)) where
@@ -83,42 +81,51 @@ printed-one : (l : List ℕ) → printed (l ∷ []) ≡ replyTo l .says
 unfolding printed
 printed-one l = append-nil (replyTo l .says)
 
-module _ (line room part : List ℕ) (p : Progress) (from : ℕ) (a : Answered) (t : Totals) where
-  pub line-fits : p .at + 6 * length line ≤ 70368744177664 → Answers (replyTo line) (rest from room) a part → Fits w64 (p .at + a .len)
-  line-fits h e = record { fits = omega (arith, e .len, reply-bound line) }
+pub line-put : (line room part : List ℕ) (at from : ℕ) (a : Answered) → from ≡ min at (length room) → length part ≡ length (rest from room)
+    → Answers (replyTo line) (rest from room) a part → Replies line room at a (putMid from (length room - from) room part)
+unfolding withFront
+line-put line room part at from a f size e =
+    record {
+      put =
+          rw (e .len)
+          (in-part (replyTo line .says) room part at from f size
+          (λ h. e .leaves ∙ simp (le-leb (length (replyTo line .says)) (length (rest from room)) h)));
+      kind = e .kind;
+    }
 
-  pub line-put : from ≡ min (p .at) (length room) → length part ≡ length (rest from room) → Answers (replyTo line) (rest from room) a part
-      → t ≡ counted (p .totals) (a .kind) → Passes (line ∷ []) room p (progress (p .at + a .len) t) (putMid from (length room - from) room part)
-  unfolding countedAll withFront
-  line-put f size e c =
-      record {
-        put =
-            rw (printed-one line, e .len)
-            (in-part (replyTo line .says) room part (p .at) from f size
-            (λ h. e .leaves ∙ simp (le-leb (length (replyTo line .says)) (length (rest from room)) h)));
-        totals = c ∙ ap (counted (p .totals)) (e .kind);
-      }
+-- a line that is answered is passed, once it is counted too
+replies-pass : {line room after : List ℕ} {at : ℕ} {a : Answered} (t t₁ : Totals) → Replies line room at a after → t₁ ≡ counted t (a .kind)
+    → Passes (line ∷ []) room (progress at t) (progress (at + a .len) t₁) after
+unfolding countedAll
+replies-pass {line = line} t t₁ q c = record { put = rw (printed-one line) (q .put); totals = c ∙ ap (counted t) (q .kind) }
+
+-- `length_without_cr`
+module _ (raw : List ℕ) (b : Bool) (e : b ≡ endsIn 13 raw) where
+  pub cut-some : b ≡ true → 1 ≤ length raw
+  cut-some h = ends-some 13 raw (sym e ∙ h)
+
+  pub cut-length : b ≡ true → length raw - 1 ≡ length (withoutCr raw)
+  unfolding withoutCr
+  cut-length h = sym (simp (sym e ∙ h) (length-take-le (length raw - 1) raw (omega arith)))
+
+  pub plain-length : b ≡ false → length raw ≡ length (withoutCr raw)
+  unfolding withoutCr
+  plain-length h = simp (sym e ∙ h)
 
 -- `put_ended`
-module _ (raw : List ℕ) (b : Bool) (e : b ≡ endsIn 13 raw) where
-  module _ (h : b ≡ true) where
-    pub cr-some : 1 ≤ length raw
-    cr-some = ends-some 13 raw (sym e ∙ h)
+without-front : (raw : List ℕ) → take (length (withoutCr raw)) raw ≡ withoutCr raw
+unfolding withoutCr
+without-front raw =
+    by-bool (endsIn 13 raw)
+    (λ e. simp e (ap (λ (k : ℕ). take k raw) (length-take-le (length raw - 1) raw (omega arith))))
+    (λ e. simp e (take-all (length raw) raw (omega arith)))
 
-    pub cr-length : length raw - 1 ≡ length (take (length raw - 1) raw)
-    cr-length = sym (length-take-le (length raw - 1) raw (omega arith))
+module _ (raw : List ℕ) (n : ℕ) (e : n ≡ length (withoutCr raw)) where
+  pub ended-length : n ≡ length (take n raw)
+  ended-length = sym (length-take-le n raw (omega (arith, without-short raw)))
 
-    pub cr-asks : (at : ℕ) → at + 6 * length raw ≤ 70368744177664 → at + 6 * length (take (length raw - 1) raw) ≤ 70368744177664
-    cr-asks at k = omega (arith, cr-length)
-
-    pub cr-put : (room : List ℕ) (p r : Progress) (after : List ℕ) → Passes (take (length raw - 1) raw ∷ []) room p r after
-        → Passes (withoutCr raw ∷ []) room p r after
-    unfolding withoutCr
-    cr-put room p r after q = simp (sym e ∙ h) q
-
-  pub plain-put : b ≡ false → (room : List ℕ) (p r : Progress) (after : List ℕ) → Passes (raw ∷ []) room p r after → Passes (withoutCr raw ∷ []) room p r after
-  unfolding withoutCr
-  plain-put h room p r after q = simp (sym e ∙ h) q
+  pub ended-put : (room : List ℕ) (at : ℕ) (a : Answered) (after : List ℕ) → Replies (take n raw) room at a after → Replies (withoutCr raw) room at a after
+  ended-put room at a after q = rw (ap (λ (k : ℕ). take k raw) e ∙ without-front raw) at q
 
 -- `keep`
 module _ (memory part : List ℕ) (len n : ℕ) (m : length memory ≡ 4098) (h : len ≤ 4098) (e : n ≡ min (length part) (4098 - len)) where
@@ -162,31 +169,25 @@ module _ (memory part : List ℕ) (len n : ℕ) (m : length memory ≡ 4098) (h 
       }
 
 -- `end_line`
-passes-alike : {room after : List ℕ} {p r : Progress} (x y : List ℕ) → replyTo x ≡ replyTo y → Passes (x ∷ []) room p r after → Passes (y ∷ []) room p r after
-unfolding printed countedAll
-passes-alike {p = p} x y e q =
-    record {
-      put = rw (ap (λ (a : Reply). a .says) e) at (q .put);
-      totals = q .totals ∙ ap (λ (a : Reply). counted (p .totals) (a .kind)) e;
-    }
+replies-alike : {room after : List ℕ} {at : ℕ} {a : Answered} (x y : List ℕ) → replyTo x ≡ replyTo y → Replies x room at a after → Replies y room at a after
+replies-alike x y e q = record { put = rw e at (q .put); kind = q .kind ∙ ap (λ (r : Reply). r .kind) e }
 
-module _ (memory : List ℕ) (len : ℕ) (part room : List ℕ) (p r : Progress) (room′ : List ℕ) where
-  pub end-whole : len ≡ 0 → Passes (withoutCr part ∷ []) room p r room′ → Ends memory len part room p r memory room′
-  end-whole e q = rw e (record { passes = q; stored = refl })
+pub end-length : (memory : List ℕ) (len : ℕ) (part : List ℕ) (n : ℕ) (memory′ : List ℕ) → Keeps memory len part n memory′ → length memory ≡ 4098
+    → n ≡ length (take n memory′)
+end-length memory len part n memory′ k m =
+    sym (length-take-le n memory′ (omega (arith, k .short, ap length (k .stored), length-sets memory len part)))
+
+module _ (memory : List ℕ) (len : ℕ) (part room : List ℕ) (at : ℕ) (a : Answered) (room′ : List ℕ) where
+  pub end-whole : len ≡ 0 → Replies (withoutCr part) room at a room′ → Ends memory len part room at a memory room′
+  end-whole e q = rw e (record { replies = q; stored = refl })
 
   module _ (n : ℕ) (memory′ : List ℕ) (k : Keeps memory len part n memory′) where
-    pub end-length : length memory ≡ 4098 → n ≡ length (take n memory′)
-    end-length m = sym (length-take-le n memory′ (omega (arith, k .short, ap length (k .stored), length-sets memory len part)))
-
-    pub end-asks : (at : ℕ) → at + 6 * (length part + 4098) ≤ 70368744177664 → at + 6 * length (take n memory′) ≤ 70368744177664
-    end-asks at h = omega (arith, k .short, length-take n memory′)
-
-    pub end-grown : (len ≡ 0 → ⊥) → Passes (withoutCr (take n memory′) ∷ []) room p r room′ → Ends memory len part room p r memory′ room′
+    pub end-grown : (len ≡ 0 → ⊥) → Replies (withoutCr (take n memory′)) room at a room′ → Ends memory len part room at a memory′ room′
     end-grown e q =
         let raw = take len memory ++ part in
         record {
-          passes =
-              passes-alike (withoutCr (take n memory′)) (withoutCr raw)
+          replies =
+              replies-alike (withoutCr (take n memory′)) (withoutCr raw)
               (ended-alike (take n memory′) raw (ap (take 4098) (k .begun) ∙ first-alike raw)) q;
           stored = k .stored ∙ sym (simp (ne-eqb len 0 e));
         }
@@ -249,8 +250,8 @@ module _ (len : ℕ) (memory s : List ℕ) (n : ℕ) (e : n ≡ before 10 s) whe
     unfolding memoryAfter
     stored-none = rw (← e, le-ltb n (length s) h) refl
 
-module _ {memory₀ : List ℕ} {begun : ℕ} {s room₀ : List ℕ} {t : Totals} {memory room : List ℕ} {past : Progress} {len i e : ℕ}
-    (v : Run memory₀ begun s room₀ t memory room past len i e) where
+module _ {memory₀ : List ℕ} {begun : ℕ} {s room₀ : List ℕ} {t : Totals} {memory room : List ℕ} {at : ℕ} {totals : Totals} {len i e : ℕ}
+    (v : Run memory₀ begun s room₀ t memory room (progress at totals) len i e) where
   here : e - i ≡ before 10 (drop i s)
   here = omega (arith, v .next)
 
@@ -258,11 +259,21 @@ module _ {memory₀ : List ℕ} {begun : ℕ} {s room₀ : List ℕ} {t : Totals
   left = length-drop i s
 
   -- what was printed is no longer than all that is to print
-  pub run-asks : length s ≤ 4294967295 → begun ≤ 4098 → past .at + 6 * (length (take (e - i) (drop i s)) + 4098) ≤ 70368744177664
-  run-asks h b =
+  run-most : length s ≤ 4294967295 → begun ≤ 4098 → at + 6 * (length (take (e - i) (drop i s)) + 4098) ≤ 2 ^ 46
+  run-most h b =
       let n : length (printed (v .done)) ≤ length (printed (endedFrom (take begun memory₀) s)) =
       omega (arith, ap (λ (ls : List (List ℕ)). length (printed ls)) (v .lines), ap length (printed-append (v .done) (endedFrom (take len memory) (drop i s))), length-append (printed (v .done)) (printed (endedFrom (take len memory) (drop i s)))) in
       omega (arith, v .passes .put .place, printed-bound (take begun memory₀) s, length-take begun memory₀, length-take (e - i) (drop i s), left)
+
+  pub run-fits : length s ≤ 4294967295 → begun ≤ 4098 → (memory′ room′ : List ℕ) (a : Answered)
+      → Ends memory len (take (e - i) (drop i s)) room at a memory′ room′ → Fits w64 (at + a .len)
+  run-fits h b memory′ room′ a w =
+      let raw = take len memory ++ take (e - i) (drop i s) in
+      record {
+        fits =
+            omega
+            (arith, run-most h b, w .replies .put .place, reply-bound (withoutCr raw), without-short raw, length-append (take len memory) (take (e - i) (drop i s)), length-take len memory, v .size);
+      }
 
   module _ (h : e < length s) where
     inside : e - i < length (drop i s)
@@ -271,12 +282,14 @@ module _ {memory₀ : List ℕ} {begun : ℕ} {s room₀ : List ℕ} {t : Totals
     behind : drop (suc (e - i)) (drop i s) ≡ drop (e + 1) s
     behind = drop-drop (suc (e - i)) i s ∙ ap (λ (k : ℕ). drop k s) (let k : i + suc (e - i) ≡ e + 1 = omega (arith, v .next) in k)
 
-    pub find-fits : (r : ℕ) → length s ≤ 4294967295 → r ≡ before 10 (rest (e + 1) s) → Fits w64 (e + 1 + r)
-    find-fits r l f = record { fits = omega (arith, before-le 10 (rest (e + 1) s), length-take (length s - (e + 1)) (drop (e + 1) s)) }
+    pub find-fits : (from r : ℕ) → length s ≤ 4294967295 → r ≡ before 10 (rest from s) → Fits w64 (e + 1 + r)
+    find-fits from r l f =
+        record { fits = omega (arith, before-le 10 (rest from s), ap length (rest-is from s), length-drop from s) }
 
-    pub run-turn : (memory′ room′ : List ℕ) (past′ : Progress) (r : ℕ) → length memory′ ≡ length memory → Ends memory len (take (e - i) (drop i s)) room past past′ memory′ room′
-        → r ≡ before 10 (rest (e + 1) s) → Run memory₀ begun s room₀ t memory′ room′ past′ 0 (e + 1) (e + 1 + r)
-    run-turn memory′ room′ past′ r m w f =
+    pub run-turn : (memory′ room′ : List ℕ) (a : Answered) (totals′ : Totals) (r : ℕ) → length memory′ ≡ length memory
+        → Ends memory len (take (e - i) (drop i s)) room at a memory′ room′ → totals′ ≡ counted totals (a .kind) → r ≡ before 10 (rest (e + 1) s)
+        → Run memory₀ begun s room₀ t memory′ room′ (progress (at + a .len) totals′) 0 (e + 1) (e + 1 + r)
+    run-turn memory′ room′ a totals′ r m w c f =
         let q = take len memory in
         let line = withoutCr (q ++ take (e - i) (drop i s)) in
         let first : endedFrom q (drop i s) ≡ line ∷ endedFrom [] (drop (e + 1) s) =
@@ -289,7 +302,7 @@ module _ {memory₀ : List ℕ} {begun : ℕ} {s room₀ : List ℕ} {t : Totals
           within = omega arith;
           next = omega (arith, ap (before 10) (rest-is (e + 1) s));
           done = v .done ++ (line ∷ []);
-          passes = passes-then (v .passes) (w .passes);
+          passes = passes-then (v .passes) (replies-pass totals totals′ (w .replies) c);
           lines = append-snoc (v .done) line (endedFrom [] (drop (e + 1) s)) ∙ ap (λ (ls : List (List ℕ)). v .done ++ ls) (sym first) ∙ v .lines;
           last = sym second ∙ v .last;
           stored = ap (memoryAfter 0 memory′) (sym behind) ∙ stored-first len memory (drop i s) (e - i) here inside memory′ (w .stored) ∙ v .stored;
@@ -299,7 +312,7 @@ module _ {memory₀ : List ℕ} {begun : ℕ} {s room₀ : List ℕ} {t : Totals
     none : length (drop i s) ≤ before 10 (drop i s)
     none = omega (arith, v .next, left, v .within)
 
-    pub run-end : (n : ℕ) (memory′ : List ℕ) → Keeps memory len (rest i s) n memory′ → Runs memory₀ begun s room₀ t (record { len = n; past = past }) memory′ room
+    pub run-end : (n : ℕ) (memory′ : List ℕ) → Keeps memory len (rest i s) n memory′ → Runs memory₀ begun s room₀ t (record { len = n; past = progress at totals }) memory′ room
     run-end n memory′ k =
         let q = take len memory in
         let all : v .done ≡ endedFrom (take begun memory₀) s =
@@ -312,15 +325,15 @@ module _ {memory₀ : List ℕ} {begun : ℕ} {s room₀ : List ℕ} {t : Totals
         }
 
 -- `put_totals`
-module _ (room part : List ℕ) (p : Progress) (from n : ℕ) (q : Put 86 (rest from room) 0 (totalsText (p .totals)) n part) where
-  pub totals-fits : p .at ≤ 70368744177664 → Fits w64 (p .at + n)
+module _ (room part : List ℕ) (at : ℕ) (t : Totals) (from n : ℕ) (q : Put 86 (rest from room) 0 (totalsText t) n part) where
+  pub totals-fits : at ≤ 2 ^ 46 → Fits w64 (at + n)
   totals-fits h = record { fits = omega (arith, q .place, q .bound) }
 
-  pub totals-put : from ≡ min (p .at) (length room) → length part ≡ length (rest from room)
-      → Prints (totalsText (p .totals)) room (p .at) (p .at + n) (putMid from (length room - from) room part)
+  pub totals-put : from ≡ min at (length room) → length part ≡ length (rest from room)
+      → Prints (totalsText t) room at (at + n) (putMid from (length room - from) room part)
   totals-put f size =
-      let e : n ≡ length (totalsText (p .totals)) = omega (arith, q .place) in
-      rw e (in-part (totalsText (p .totals)) room part (p .at) from f size (put-front q))
+      let e : n ≡ length (totalsText t) = omega (arith, q .place) in
+      rw e (in-part (totalsText t) room part at from f size (put-front q))
 
 -- `finish`
 module _ (last room : List ℕ) (t : Totals) (end : ℕ) (after : List ℕ) where
@@ -332,21 +345,18 @@ module _ (last room : List ℕ) (t : Totals) (end : ℕ) (after : List ℕ) wher
       go [] e = record { put = p; totals = refl }
       go (b ∷ l) e = absurd (omega arith)
 
-  module _ (p : Progress) (m : List ℕ) (q : Passes (last ∷ []) room (progress 0 t) p m) where
-    pub finish-asks : length last ≤ 4098 → p .at ≤ 70368744177664
-    finish-asks h = omega (arith, q .put .place, ap length (printed-one last), reply-bound last)
+  module _ (a : Answered) (m : List ℕ) (q : Replies last room 0 a m) where
+    pub finish-asks : length last ≤ 4098 → a .len ≤ 2 ^ 46
+    finish-asks h = omega (arith, q .put .place, reply-bound last)
 
-    pub finish-last : (length last ≡ 0 → ⊥) → Prints (totalsText (p .totals)) m (p .at) end after → Finishes last room t (progress end (p .totals)) after
+    pub finish-last : (length last ≡ 0 → ⊥) → (t₁ : Totals) → t₁ ≡ counted t (a .kind) → Prints (totalsText t₁) m (a .len) end after
+        → Finishes last room t (progress end t₁) after
     unfolding lastLine printed
-    finish-last h w = go last h q
+    finish-last h t₁ c w = go last h (replies-pass t t₁ q c)
       where
-        go : (l : List ℕ) → (length l ≡ 0 → ⊥) → Passes (l ∷ []) room (progress 0 t) p m → Finishes l room t (progress end (p .totals)) after
+        go : (l : List ℕ) → (length l ≡ 0 → ⊥) → Passes (l ∷ []) room (progress 0 t) (progress (0 + a .len) t₁) m → Finishes l room t (progress end t₁) after
         go [] e x = absurd (e refl)
-        go (b ∷ l) e x = record { put = rw (← x .totals) (prints-then (x .put) w); totals = x .totals }
-
--- `finish_length`
-pub finish-measured : (last none : List ℕ) (t : Totals) (r : Progress) (none′ : List ℕ) → Finishes last none t r none′ → r .at ≡ length (finishText last t)
-finish-measured last none t r none′ w = w .put .place ∙ zero-add (length (finishText last t))
+        go (b ∷ l) e x = record { put = rw (← x .totals) (prints-then (x .put) (rw (zero-add (a .len)) w)); totals = x .totals }
 
 -- `fits`
 module _ (begun s : List ℕ) (room : ℕ) where
@@ -477,22 +487,20 @@ module _ (state : State) (memory room : List ℕ) where
         does-print close-prints (omega (arith, close-length)) (x .put) (cc (x .totals)) (cc (x .totals))
 
 pub ruleset laws = (
-  line-fits,
   line-put,
-  cr-some,
-  cr-length,
-  cr-asks,
-  cr-put,
-  plain-put,
+  cut-some,
+  cut-length,
+  plain-length,
+  ended-length,
+  ended-put,
   keep-length,
   keep-asks,
   keep-done,
   end-whole,
   end-length,
-  end-asks,
   end-grown,
   run-start,
-  run-asks,
+  run-fits,
   find-fits,
   run-turn,
   run-end,
@@ -501,7 +509,6 @@ pub ruleset laws = (
   finish-none,
   finish-asks,
   finish-last,
-  finish-measured,
   fits-surely,
   fits-measured,
   start-state,

@@ -1,12 +1,14 @@
 -- What the private functions do.
 use Prim.Native.Nat.{ℕ, _+_, _≤_}
 use mathlib.Core.Path.{_≡_}
-use mathlib.Core.List.{List, [], _∷_, _++_}
+use mathlib.Core.List.{List, _++_}
 use lib.ListN.{length, take}
 use lib.Seq.{sets}
 use Rattle.report.specs.Lines.{withoutCr, endedFrom, openFrom, lastLine}
 use Rattle.report.specs.Report.{printed, totalsText}
+use Rattle.report.specs.Reply.{replyTo}
 use Rattle.report.specs.Reader.{countedAll}
+use Rattle.answer.specs.declared.Answered.{Answered}
 use Rattle.report.specs.declared.Totals.{Totals}
 use Rattle.lines.specs.declared.Progress.{Progress}
 use Rattle.lines.specs.declared.Ran.{Ran}
@@ -21,6 +23,11 @@ pub record Prints (t room : List ℕ) (at next : ℕ) (after : List ℕ) : Type 
 abbrev pub progress : ℕ → Totals → Progress
 progress at t = record { at = at; totals = t }
 
+-- a line is answered from the place `at` on
+pub record Replies (line room : List ℕ) (at : ℕ) (a : Answered) (after : List ℕ) : Type 0 where
+  pub put : Prints (replyTo line .says) room at (at + a .len) after
+  pub kind : a .kind ≡ replyTo line .kind
+
 -- lines are answered, one after another, and counted
 pub record Passes (ls : List (List ℕ)) (room : List ℕ) (p r : Progress) (after : List ℕ) : Type 0 where
   pub put : Prints (printed ls) room (p .at) (r .at) after
@@ -33,8 +40,8 @@ pub record Keeps (memory : List ℕ) (n : ℕ) (part : List ℕ) (r : ℕ) (afte
   pub stored : after ≡ sets memory n part
 
 -- the open line ends with a part
-pub record Ends (memory : List ℕ) (n : ℕ) (part room : List ℕ) (p r : Progress) (memory₁ room₁ : List ℕ) : Type 0 where
-  pub passes : Passes (withoutCr (take n memory ++ part) ∷ []) room p r room₁
+pub record Ends (memory : List ℕ) (n : ℕ) (part room : List ℕ) (at : ℕ) (a : Answered) (memory₁ room₁ : List ℕ) : Type 0 where
+  pub replies : Replies (withoutCr (take n memory ++ part)) room at a room₁
   pub stored : memory₁ ≡ memoryAtEnd n memory part
 
 -- the lines that end in the fragment s are answered from the room's front on, and what is open then is kept

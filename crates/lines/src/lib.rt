@@ -1,16 +1,17 @@
 // The reader of lines: a small state beside lent memory, that takes a text in fragments of any length. Each call prints into lent room what the
 // lines that end in it are answered with, or is refused and changes nothing.
 ghost use mathlib.Core.Path.{_≡_};
-ghost use mathlib.Core.List.{_∷_, []};
-ghost use Prim.Native.Nat.{_+_, _*_, _≤_, min};
+ghost use mathlib.Core.List.{[]};
+ghost use Prim.Native.Nat.{_^_, _≤_, min};
 ghost use lib.Dec.{leb};
-ghost use lib.ListN.{length, take};
+ghost use lib.ListN.{length};
 ghost use Rattle.report.specs.Lines.{withoutCr, endedFrom};
 ghost use Rattle.report.specs.Report.{printed, totalsText};
 ghost use Rattle.report.specs.Reader.{readerOf};
 ghost use Rattle.lines.specs.View.{stateOf};
 ghost use Rattle.lines.specs.Call.{Feeds, Closes};
-ghost use Rattle.lines.specs.Steps.{Prints, Passes, Keeps, Ends, Runs, finishText, Finishes};
+ghost use Rattle.lines.specs.Steps.{Prints, Replies, Keeps, Ends, Runs, finishText, Finishes};
+use answer::Answered;
 use report::Totals;
 
 // How many bytes of the open line are kept: a line of so many is long whatever follows.
@@ -63,32 +64,31 @@ fn least(a: usize, b: usize) -> usize
     if a < b { a } else { b }
 }
 
-// A line without its end is answered and counted. Where the room ends before the place, the answer is only measured.
-fn put_line(line: &[u8], room: &mut [u8], past: Progress) -> Progress
-    requires { ⌜ past .at + 6 * length (now line) ≤ 70368744177664 ⌝ }
-    ensures { λ r. ⌜ Passes (now (line .entry) ∷ []) (now (room .entry)) past r (now (room .exit)) ⌝ }
+// A line without its end is answered. Where the room ends before the place, the answer is only measured.
+fn put_line(line: &[u8], room: &mut [u8], at: usize) -> Answered
+    ensures { λ r. ⌜ Replies (now (line .entry)) (now (room .entry)) at r (now (room .exit)) ⌝ }
 {
-    let at = past.at;
-    let totals = past.totals;
     let from = least(at, room.len());
-    let answered = answer::answer_line(line, &mut room[from..]);
-    let kind = answered.kind;
-    Progress {
-        at: at + answered.len,
-        totals: tally::count(totals, kind),
-    }
+    answer::answer_line(line, &mut room[from..])
 }
 
-// The same of a line that an LF ended.
-fn put_ended(raw: &[u8], room: &mut [u8], past: Progress) -> Progress
-    requires { ⌜ past .at + 6 * length (now raw) ≤ 70368744177664 ⌝ }
-    ensures { λ r. ⌜ Passes (withoutCr (now (raw .entry)) ∷ []) (now (room .entry)) past r (now (room .exit)) ⌝ }
+// How long a line is that an LF ended, without one CR before that.
+fn length_without_cr(raw: &[u8]) -> usize
+    ensures { λ r. ⌜ r ≡ length (withoutCr (now (raw .entry))) ⌝ }
 {
+    let n = raw.len();
     if text::ends_in(raw, b'\r') {
-        let last = raw.len() - 1;
-        return put_line(&raw[..last], room, past);
+        return n - 1;
     }
-    put_line(raw, room, past)
+    n
+}
+
+// A line that an LF ended is answered.
+fn put_ended(raw: &[u8], room: &mut [u8], at: usize) -> Answered
+    ensures { λ r. ⌜ Replies (withoutCr (now (raw .entry))) (now (room .entry)) at r (now (room .exit)) ⌝ }
+{
+    let n = length_without_cr(raw);
+    put_line(&raw[..n], room, at)
 }
 
 // The open line grows by a part, of which as much is kept as the memory has room for. The line's new length is answered.
@@ -101,43 +101,48 @@ fn keep(memory: &mut [u8], len: usize, part: &[u8]) -> usize
 }
 
 // The open line ends with a part. Where all of it lies in the part, it is answered where it lies.
-fn end_line(memory: &mut [u8], len: usize, part: &[u8], room: &mut [u8], past: Progress) -> Progress
-    requires { ⌜ (length (now memory) ≡ 4098) × (len ≤ 4098) × (past .at + 6 * (length (now part) + 4098) ≤ 70368744177664) ⌝ }
-    ensures { λ r. ⌜ Ends (now (memory .entry)) len (now (part .entry)) (now (room .entry)) past r (now (memory .exit)) (now (room .exit)) ⌝ }
+fn end_line(memory: &mut [u8], len: usize, part: &[u8], room: &mut [u8], at: usize) -> Answered
+    requires { ⌜ (length (now memory) ≡ 4098) × (len ≤ 4098) ⌝ }
+    ensures { λ r. ⌜ Ends (now (memory .entry)) len (now (part .entry)) (now (room .entry)) at r (now (memory .exit)) (now (room .exit)) ⌝ }
 {
     if len == 0 {
-        return put_ended(part, room, past);
+        return put_ended(part, room, at);
     }
     let n = keep(memory, len, part);
-    put_ended(&memory[..n], room, past)
+    put_ended(&memory[..n], room, at)
 }
 
-// A fragment is read: its lines are answered from the room's front on, and what is open behind the last one is kept.
-fn run(memory: &mut [u8], begun: usize, text: &[u8], room: &mut [u8], totals: Totals) -> Ran
+// A fragment is read: its lines are answered from the room's front on and counted, and what is open behind the last one is kept.
+fn run(memory: &mut [u8], begun: usize, text: &[u8], room: &mut [u8], before: Totals) -> Ran
     requires { ⌜ (length (now memory) ≡ 4098) × (begun ≤ 4098) × (length (now text) ≤ 4294967295) ⌝ }
-    ensures { λ r. ⌜ Runs (now (memory .entry)) begun (now (text .entry)) (now (room .entry)) totals r (now (memory .exit)) (now (room .exit)) ⌝ }
+    ensures { λ r. ⌜ Runs (now (memory .entry)) begun (now (text .entry)) (now (room .entry)) before r (now (memory .exit)) (now (room .exit)) ⌝ }
 {
-    let mut past = Progress { at: 0, totals };
+    let mut totals = before;
+    let mut at: usize = 0;
     let mut len = begun;
     let mut i = 0;
     let mut e = text::find(text, b'\n');
     while e < text.len() {
-        past = end_line(memory, len, &text[i..e], room, past);
+        let answered = end_line(memory, len, &text[i..e], room, at);
+        let kind = answered.kind;
+        at += answered.len;
+        totals = tally::count(totals, kind);
         len = 0;
         i = e + 1;
         e = i + text::find(&text[i..], b'\n');
     }
     let n = keep(memory, len, &text[i..]);
-    Ran { len: n, past }
+    Ran {
+        len: n,
+        past: Progress { at, totals },
+    }
 }
 
 // The line of the totals is put behind what was printed.
-fn put_totals(room: &mut [u8], past: Progress) -> usize
-    requires { ⌜ past .at ≤ 70368744177664 ⌝ }
-    ensures { λ r. ⌜ Prints (totalsText (past .totals)) (now (room .entry)) (past .at) r (now (room .exit)) ⌝ }
+fn put_totals(room: &mut [u8], at: usize, totals: Totals) -> usize
+    requires { ⌜ at ≤ 2 ^ 46 ⌝ }
+    ensures { λ r. ⌜ Prints (totalsText totals) (now (room .entry)) at r (now (room .exit)) ⌝ }
 {
-    let at = past.at;
-    let totals = past.totals;
     let from = least(at, room.len());
     at + tally::put_totals(totals, &mut room[from..])
 }
@@ -147,14 +152,14 @@ fn finish(last: &[u8], room: &mut [u8], totals: Totals) -> Progress
     requires { ⌜ length (now last) ≤ 4098 ⌝ }
     ensures { λ r. ⌜ Finishes (now (last .entry)) (now (room .entry)) totals r (now (room .exit)) ⌝ }
 {
-    let start = Progress { at: 0, totals };
     if last.len() == 0 {
-        let end = put_totals(room, start);
+        let end = put_totals(room, 0, totals);
         return Progress { at: end, totals };
     }
-    let past = put_line(last, room, start);
-    let all = past.totals;
-    let end = put_totals(room, past);
+    let answered = put_line(last, room, 0);
+    let kind = answered.kind;
+    let all = tally::count(totals, kind);
+    let end = put_totals(room, answered.len, all);
     Progress {
         at: end,
         totals: all,
@@ -219,18 +224,15 @@ pub fn feed(state: State, memory: &mut [u8; 4098], text: &[u8], room: &mut [u8])
 {
     let closed = state.closed;
     if closed {
-        return Fed {
-            said: Said::Refused(Unfed::Closed),
-            state,
-        };
+        let said = Said::Refused(Unfed::Closed);
+        return Fed { said, state };
     }
     let all = state.read as usize + text.len();
     if MOST_READ < all {
-        return Fed {
-            said: Said::Refused(Unfed::OverLimit),
-            state,
-        };
+        let said = Said::Refused(Unfed::OverLimit);
+        return Fed { said, state };
     }
+    let read = all as u32;
     let line: &mut [u8] = memory;
     let len = least(state.len, MOST_KEPT);
     let totals = state.totals;
@@ -243,15 +245,13 @@ pub fn feed(state: State, memory: &mut [u8; 4098], text: &[u8], room: &mut [u8])
             state: State {
                 len: ran.len,
                 totals: after,
-                read: all as u32,
+                read,
                 closed: false,
             },
         };
     }
-    Fed {
-        said: Said::Refused(Unfed::NoRoom),
-        state,
-    }
+    let said = Said::Refused(Unfed::NoRoom);
+    Fed { said, state }
 }
 
 // The end of the text: the last line, where there is one, and the totals.
@@ -260,19 +260,15 @@ pub fn close(state: State, memory: &[u8; 4098], room: &mut [u8]) -> Fed
 {
     let closed = state.closed;
     if closed {
-        return Fed {
-            said: Said::Refused(Unfed::Closed),
-            state,
-        };
+        let said = Said::Refused(Unfed::Closed);
+        return Fed { said, state };
     }
     let line: &[u8] = memory;
     let len = least(state.len, MOST_KEPT);
     let totals = state.totals;
     if room.len() < finish_length(&line[..len], totals) {
-        return Fed {
-            said: Said::Refused(Unfed::NoRoom),
-            state,
-        };
+        let said = Said::Refused(Unfed::NoRoom);
+        return Fed { said, state };
     }
     let done = finish(&line[..len], room, totals);
     let after = done.totals;

@@ -31,11 +31,17 @@ fn open_line() -> [u8; 4098]
     [0; 4098]
 }
 
-// Room for whatever a fragment of 65,536 bytes prints, so that nothing is measured: six bytes for each of its bytes and of the open line's 4,098.
-fn output() -> [u8; 417804]
-    ensures { λ r. ⌜ 417804 ≡ length r ⌝ }
+fn input() -> [u8; 49152]
+    ensures { λ r. ⌜ 49152 ≡ length r ⌝ }
 {
-    [0; 417804]
+    [0; 49152]
+}
+
+// Room for whatever a fragment of 49,152 bytes prints, so that nothing is measured: six bytes for each of its bytes and of the open line's 4,098.
+fn output() -> [u8; 319500]
+    ensures { λ r. ⌜ 319500 ≡ length r ⌝ }
+{
+    [0; 319500]
 }
 
 fn write_said(room: &[u8], said: Said) -> bool {
@@ -87,7 +93,7 @@ fn say_broken() {
 // Writes an answer for each line of standard input, and the totals.
 pub fn report_input() {
     let mut memory = open_line();
-    let mut buffer = io::large_buffer();
+    let mut buffer = input();
     let mut printed = output();
     let space: &mut [u8] = &mut buffer;
     let room: &mut [u8] = &mut printed;

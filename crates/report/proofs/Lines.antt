@@ -2,17 +2,17 @@
 use Prim.Native.Nat.{ℕ, zero, suc, _+_, _-_, _≤_, _<_}
 use mathlib.Core.Path.{_≡_, refl, sym, ap, _∙_}
 use mathlib.Core.List.{List, [], _∷_, _++_, append-nil}
-use mathlib.Core.Bool.{true, false, cond}
 use native.Mathlib.Omega.{arith}
 use lib.Dec.{eqb, ltb}
-use lib.ListN.{length, take, drop, length-append, length-take}
+use lib.ListN.{length, take, drop, length-take}
 use lib.Seq.{append-snoc, take-all, take-take}
 use borrow.Author.Tests.{lt-ltb, ltb-true, ltb-false}
 use Rattle.text.specs.Find.{before}
 use Rattle.text.specs.Word.{word, endsIn}
 use Rattle.text.proofs.Bools.{by-bool}
 use Rattle.report.specs.Lines.{withoutCr, endedFrom, openFrom, lastLine}
-use Rattle.report.specs.Reply.{Reply, reply, replyTo}
+use Rattle.report.specs.Reply.{reply, replyTo}
+use Rattle.report.specs.Reader.{joined}
 use Rattle.report.specs.declared.Kind.the-variants.{Long}
 
 -- a text and then another
@@ -60,13 +60,19 @@ open-none begun (b ∷ s) h =
     (λ e. simp e (open-none (begun ++ b ∷ []) s (omega (arith, simp e at h)) ∙ append-snoc begun b s))
 
 -- at most one byte is dropped
-pub without-short : (l : List ℕ) → length (withoutCr l) ≤ length l
-unfolding withoutCr
-without-short l = by-bool (endsIn 13 l) (λ e. simp e (omega (arith, length-take (length l - 1) l))) (λ e. simp e (omega arith))
-
 without-long : (l : List ℕ) → length l ≤ length (withoutCr l) + 1
 unfolding withoutCr
-without-long l = by-bool (endsIn 13 l) (λ e. simp e (omega (arith, length-take (length l - 1) l))) (λ e. simp e (omega arith))
+without-long l = by-bool (endsIn 13 l) (λ e. simp (e, length-take) (omega arith)) (λ e. simp e (omega arith))
+
+pub without-short : (l : List ℕ) → length (withoutCr l) ≤ length l
+unfolding withoutCr
+without-short l = by-bool (endsIn 13 l) (λ e. simp (e, length-take) (omega arith)) (λ e. simp e (omega arith))
+
+-- and none of the last line
+pub last-whole : (l : List ℕ) → joined (lastLine l) ≡ l
+unfolding joined lastLine
+last-whole [] = refl
+last-whole (b ∷ l) = append-nil (b ∷ l)
 
 -- two lines that have their first 4,098 bytes in common: they are one line, or both are long
 alike : (p q : List ℕ) → take 4098 p ≡ take 4098 q → length p < 4098 → p ≡ q

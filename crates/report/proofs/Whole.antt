@@ -1,5 +1,5 @@
 -- The statements of specs/Whole.antt hold. Assumes nothing.
-use Prim.Native.Nat.{ℕ, suc, _+_, _^_, _≤_, _<_}
+use Prim.Native.Nat.{ℕ, _+_, _^_, _≤_, _<_}
 use mathlib.Core.Path.{_≡_, refl, sym, ap, _∙_}
 use mathlib.Core.List.{List, [], _∷_, _++_, append-assoc, append-nil}
 use native.Mathlib.Omega.{arith}
@@ -10,9 +10,9 @@ use Rattle.report.specs.Lines.{withoutCr, endedFrom, openFrom, lastLine,
 use Rattle.report.specs.Reply.{Reply, replyTo}
 use Rattle.report.specs.Report.{printed, totalsOf, totalsText, report}
 use Rattle.report.specs.Reader.{Reader, readerOf, counted, countedAll, feedText, fed, fedAll, closeText, session, joined}
-use Rattle.report.specs.Whole.{EachCounted, TotalsAdd, FirstBytesDecide, ReaderOfAll, AnyCutting}
+use Rattle.report.specs.Whole.{EachCounted, TotalsAdd, LastLineWhole, FirstBytesDecide, ReaderOfMore, ReaderOfAll, AnyCutting}
 use Rattle.report.specs.declared.Totals.{Totals}
-use Rattle.report.proofs.Lines.{open-append, ended-append, ended-alike, last-alike, more-alike, first-alike, open-alike}
+use Rattle.report.proofs.Lines.{open-append, ended-append, last-whole, ended-alike, last-alike, more-alike, first-alike, open-alike}
 use Rattle.report.proofs.Printed.{printed-append}
 use Rattle.report.proofs.Counting.{totals-add, totals-lines, counted-on}
 
@@ -21,6 +21,9 @@ each-counted = totals-lines
 
 pub totals-sum : TotalsAdd
 totals-sum ls = totals-add ls .sum
+
+pub last-line-whole : LastLineWhole
+last-line-whole = last-whole
 
 pub first-bytes-decide : FirstBytesDecide
 first-bytes-decide l = (ended-alike (take 4098 l) l (first-alike l), last-alike (take 4098 l) l (first-alike l))
@@ -136,6 +139,9 @@ prints-on t (s ∷ fragments) h =
     ∙ ap (λ (r : Reader). printed (endedFrom [] (t ++ s)) ++ session r fragments) k
     ∙ prints-on (t ++ s) fragments (rw e h)
     ∙ ap report e
+
+pub reader-of-more : ReaderOfMore
+reader-of-more = feed-reads
 
 pub reader-of-all : ReaderOfAll
 reader-of-all fragments h = reads-on [] fragments h

@@ -1,9 +1,7 @@
 -- What the definitions of this crate say of some texts.
-use mathlib.Core.Path.{_≡_, refl}
-use mathlib.Core.List.{[], _∷_, _++_}
-use Rattle.text.specs.Find.{before, beforePair, throughLast}
-use Rattle.text.specs.Word.{word, same, endsIn}
-use Rattle.text.specs.Place.{bytesAt}
+use mathlib.Core.Path.{refl}
+use mathlib.Core.List.{[], _∷_}
+use Rattle.text.specs.Word.{word, endsIn}
 use Rattle.text.specs.Example.{_gives_, Each}
 use Rattle.report.specs.Lines.{withoutCr, endedFrom, openFrom, lastLine, linesOf}
 

@@ -1,8 +1,7 @@
 -- The reader of lines as a state that takes a text in fragments: what it stands for, what each call prints, and what it stands for then.
 use Prim.Native.Nat.{ℕ, _+_, _%_, _^_}
 use mathlib.Core.List.{List, [], _∷_, _++_}
-use mathlib.Core.Bool.{Bool, true, false, cond}
-use lib.Dec.{ltb}
+use mathlib.Core.Bool.{Bool, true, false}
 use lib.ListN.{length, take}
 use Rattle.report.specs.Lines.{endedFrom, openFrom, lastLine}
 use Rattle.report.specs.Reply.{replyTo}

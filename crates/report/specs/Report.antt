@@ -1,10 +1,10 @@
 -- The report of a text: what is printed for each line, and then the totals.
 use Prim.Native.Nat.{ℕ, _+_}
-use mathlib.Core.List.{List, [], _∷_, _++_, map}
+use mathlib.Core.List.{List, [], _∷_, _++_}
 use Rattle.text.specs.Word.{word}
 use Rattle.number.specs.Decimal.{decimal}
 use Rattle.report.specs.Lines.{linesOf}
-use Rattle.report.specs.Reply.{Reply, replyTo}
+use Rattle.report.specs.Reply.{replyTo}
 use Rattle.report.specs.declared.Kind.{Kind}
 use Rattle.report.specs.declared.Kind.the-variants.{Accepted, Refused, Other, Long}
 use Rattle.report.specs.declared.Totals.{Totals}

@@ -3,10 +3,10 @@ use Prim.Native.Nat.{ℕ, _+_, _≤_}
 use mathlib.Core.Path.{_≡_}
 use mathlib.Core.List.{List, [], _++_}
 use lib.ListN.{length, take}
-use Rattle.report.specs.Lines.{withoutCr}
+use Rattle.report.specs.Lines.{withoutCr, lastLine}
 use Rattle.report.specs.Reply.{replyTo}
 use Rattle.report.specs.Report.{totalsOf, report}
-use Rattle.report.specs.Reader.{readerOf, fedAll, session, joined}
+use Rattle.report.specs.Reader.{readerOf, fed, fedAll, session, joined}
 
 -- each line is counted, and under one kind
 abbrev pub EachCounted : Type 0
@@ -15,9 +15,17 @@ EachCounted = (ls : List (List ℕ)) → totalsOf ls .lines ≡ length ls
 abbrev pub TotalsAdd : Type 0
 TotalsAdd = (ls : List (List ℕ)) → totalsOf ls .lines ≡ totalsOf ls .ok + totalsOf ls .no + totalsOf ls .other + totalsOf ls .long
 
+-- of the last line nothing is dropped
+abbrev pub LastLineWhole : Type 0
+LastLineWhole = (l : List ℕ) → joined (lastLine l) ≡ l
+
 -- of a line its first 4,098 bytes decide, whether an LF ends it or not
 abbrev pub FirstBytesDecide : Type 0
 FirstBytesDecide = (l : List ℕ) → (replyTo (withoutCr (take 4098 l)) ≡ replyTo (withoutCr l)) × (replyTo (take 4098 l) ≡ replyTo l)
+
+-- the reader that stands for the text t stands for t and s after the fragment s
+abbrev pub ReaderOfMore : Type 0
+ReaderOfMore = (t s : List ℕ) → length (t ++ s) ≤ 4294967295 → fed (readerOf t) s ≡ readerOf (t ++ s)
 
 -- however a text within the limit is cut, even between CR and LF, the reader stands for the text so far, and what the calls print, one after
 -- another, is the report of the whole text

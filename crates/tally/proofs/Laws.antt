@@ -1,13 +1,13 @@
 -- One law for each way out of this crate's functions. Assumes nothing.
 use Prim.Native.Nat.{ℕ, _+_, _≤_}
-use mathlib.Core.Path.{_≡_, _∙_, sym, ap}
+use mathlib.Core.Path.{_≡_}
 use mathlib.Core.List.{List, [], _∷_, _++_, append-assoc}
 use native.Mathlib.Omega.{arith}
 use Rattle.text.specs.Word.{word}
 use Rattle.number.specs.Decimal.{decimal}
 use Rattle.room.specs.Put.{Put}
 use Rattle.room.proofs.Laws.{put-then, put-wider}
-use Rattle.report.specs.Report.{totals, totalsOfOne, totalsText}
+use Rattle.report.specs.Report.{totals, totalsText}
 use Rattle.report.specs.Reader.{added, counted}
 use Rattle.report.specs.declared.Kind.{Kind}
 use Rattle.report.specs.declared.Kind.the-variants.{Accepted, Refused, Other, Long}

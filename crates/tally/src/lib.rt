@@ -6,68 +6,33 @@ ghost use lib.ListN.{length};
 ghost use Rattle.text.specs.Word.{word};
 ghost use Rattle.number.specs.Decimal.{decimal};
 ghost use Rattle.room.specs.Put.{Put};
-ghost use Rattle.report.specs.Report.{totalsText};
+ghost use Rattle.report.specs.Report.{totals, totalsText};
 ghost use Rattle.report.specs.Reader.{added, counted};
 use report::Kind;
 use report::Totals;
 
-fn add(a: Totals, b: Totals) -> Totals
-    ensures { λ r. ⌜ r ≡ added a b ⌝ }
+// One line more, and one of its kind.
+fn add(before: Totals, ok: u32, no: u32, other: u32, long: u32) -> Totals
+    ensures { λ r. ⌜ r ≡ added before (totals 1 ok no other long) ⌝ }
 {
     Totals {
-        lines: std::num::wrapping_add_u32(a.lines, b.lines),
-        ok: std::num::wrapping_add_u32(a.ok, b.ok),
-        no: std::num::wrapping_add_u32(a.no, b.no),
-        other: std::num::wrapping_add_u32(a.other, b.other),
-        long: std::num::wrapping_add_u32(a.long, b.long),
+        lines: std::num::wrapping_add_u32(before.lines, 1),
+        ok: std::num::wrapping_add_u32(before.ok, ok),
+        no: std::num::wrapping_add_u32(before.no, no),
+        other: std::num::wrapping_add_u32(before.other, other),
+        long: std::num::wrapping_add_u32(before.long, long),
     }
 }
 
-// The totals with one line more, of that kind.
-pub fn count(totals: Totals, kind: Kind) -> Totals
-    ensures { λ r. ⌜ r ≡ counted totals kind ⌝ }
+// The totals with a line more, of that kind.
+pub fn count(before: Totals, kind: Kind) -> Totals
+    ensures { λ r. ⌜ r ≡ counted before kind ⌝ }
 {
     match kind {
-        Kind::Accepted => add(
-            totals,
-            Totals {
-                lines: 1,
-                ok: 1,
-                no: 0,
-                other: 0,
-                long: 0,
-            },
-        ),
-        Kind::Refused => add(
-            totals,
-            Totals {
-                lines: 1,
-                ok: 0,
-                no: 1,
-                other: 0,
-                long: 0,
-            },
-        ),
-        Kind::Other => add(
-            totals,
-            Totals {
-                lines: 1,
-                ok: 0,
-                no: 0,
-                other: 1,
-                long: 0,
-            },
-        ),
-        Kind::Long => add(
-            totals,
-            Totals {
-                lines: 1,
-                ok: 0,
-                no: 0,
-                other: 0,
-                long: 1,
-            },
-        ),
+        Kind::Accepted => add(before, 1, 0, 0, 0),
+        Kind::Refused => add(before, 0, 1, 0, 0),
+        Kind::Other => add(before, 0, 0, 1, 0),
+        Kind::Long => add(before, 0, 0, 0, 1),
     }
 }
 
@@ -81,20 +46,20 @@ fn put_item(room: &mut [u8], at: usize, word: &[u8], n: u32) -> usize
 }
 
 // The front of the line of the totals, as far as the refused lines.
-fn put_front(totals: Totals, room: &mut [u8]) -> usize
-    ensures { λ r. ⌜ Put 51 (now (room .entry)) 0 (word "lines " ++ decimal (totals .lines) ++ word " ok " ++ decimal (totals .ok) ++ word " no " ++ decimal (totals .no)) r (now (room .exit)) ⌝ }
+fn put_front(all: Totals, room: &mut [u8]) -> usize
+    ensures { λ r. ⌜ Put 51 (now (room .entry)) 0 (word "lines " ++ decimal (all .lines) ++ word " ok " ++ decimal (all .ok) ++ word " no " ++ decimal (all .no)) r (now (room .exit)) ⌝ }
 {
-    let ok = put_item(room, 0, b"lines ", totals.lines);
-    let no = put_item(room, ok, b" ok ", totals.ok);
-    put_item(room, no, b" no ", totals.no)
+    let ok = put_item(room, 0, b"lines ", all.lines);
+    let no = put_item(room, ok, b" ok ", all.ok);
+    put_item(room, no, b" no ", all.no)
 }
 
 // The line of the totals, from the room's front on.
-pub fn put_totals(totals: Totals, room: &mut [u8]) -> usize
-    ensures { λ r. ⌜ Put 86 (now (room .entry)) 0 (totalsText totals) r (now (room .exit)) ⌝ }
+pub fn put_totals(all: Totals, room: &mut [u8]) -> usize
+    ensures { λ r. ⌜ Put 86 (now (room .entry)) 0 (totalsText all) r (now (room .exit)) ⌝ }
 {
-    let other = put_front(totals, room);
-    let long = put_item(room, other, b" other ", totals.other);
-    let end = put_item(room, long, b" long ", totals.long);
+    let other = put_front(all, room);
+    let long = put_item(room, other, b" other ", all.other);
+    let end = put_item(room, long, b" long ", all.long);
     room::put_byte(room, end, b'\n')
 }

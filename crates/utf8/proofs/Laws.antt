@@ -6,10 +6,12 @@ use mathlib.Core.List.{List, [], _∷_}
 use mathlib.Core.Bool.{Bool, true, false, _&&_, and-false}
 use native.Mathlib.Omega.{arith}
 use native.Mathlib.Numerals.{sub-one}
+use lib.Bits.{bitOr, or-add-and, and-le-l, and-le-r}
 use lib.Dec.{leb, eqb}
-use lib.ListN.{length, drop, getD}
+use lib.ListN.{length, drop, getD, length-drop}
+use lib.Seq.{drop-drop}
 use borrow.Author.Tests.{le-leb, lt-leb, eq-eqb, ne-eqb}
-use Rattle.text.proofs.Left.{next-byte, none-left, Passed, passed-none, passed-all}
+use Rattle.text.proofs.Left.{rest, rest-is, next-byte, none-left, Passed, passed-none, passed-all, passed-more}
 use Rattle.abnf.specs.Rule.{Rule, nothing, range, _then_, _thenMany_, longest}
 use Rattle.abnf.proofs.Rules.{range-then}
 use Rattle.abnf.proofs.Many.{many-none, many-cons, then-many, range-many}
@@ -19,6 +21,8 @@ use Rattle.utf8.specs.declared.Lead.the-variants.{Never, Starts}
 use Rattle.utf8.specs.declared.Utf8.the-variants.{Well, Ill}
 use Rattle.utf8.specs.Utf8.{utf8Char, utf8Octets, utf8Of}
 use Rattle.utf8.specs.Lead.{tails, goesOn}
+use Rattle.utf8.specs.Passes.{Passes}
+use Rattle.utf8.proofs.Leads.{ascii-whole}
 
 -- the bytes behind a first one, and whole sequences behind them
 abbrev onward : ℕ → ℕ → ℕ → Rule
@@ -113,6 +117,43 @@ module _ {s : List ℕ} {at low high left next : ℕ} (t : Tails s at low high l
       let z : left ≡ 0 = omega arith in
       record { within = t .within; so-far = rw z at (t .so-far) ∙ furthest-on next at utf8Octets (drop next s) refl }
 
+-- the bytes below 128 that are passed, one or eight a turn, and what is passed of a part
+pub ascii-passed : (s : List ℕ) (i : ℕ) → Passes s i → Passed (longest utf8Octets) s i
+ascii-passed s i (h, e) = record { within = h; so-far = e }
+
+module _ {s : List ℕ} {i : ℕ} (p : Passed (longest utf8Octets) s i) where
+  pub ascii-next : i < length s → getD s i 0 < 128 → Passed (longest utf8Octets) s (i + 1)
+  ascii-next h k =
+      tails-end (tails-start p (Starts 0 0x80 0xBF) h (ascii-whole (getD s i 0) k) 0 0x80 0xBF refl) (omega arith)
+
+  pub ascii-part : (r : ℕ) → Passes (rest i s) r → Passed (longest utf8Octets) s (i + r)
+  ascii-part r q =
+      let (h, e) = rw (rest-is i s) at q in
+      passed-more p r (omega (arith, length-drop i s, p .within)) (rw (drop-drop r i s) at e)
+
+-- every bit that one of the bytes from i to i + n has
+abbrev bits : List ℕ → ℕ → ℕ → ℕ
+bits s i zero = getD s i 0
+bits s i (suc n) = bitOr (bits s i n) (getD s (i + suc n) 0)
+
+or-below : (a b : ℕ) → bitOr a b < 128 → (a < 128) × (b < 128)
+or-below a b h =
+    let e = or-add-and a b in
+    let l = and-le-l a b in
+    let r = and-le-r a b in
+    (omega arith, omega arith)
+
+module _ {s : List ℕ} {i : ℕ} (p : Passed (longest utf8Octets) s i) where
+  ascii-run : (n : ℕ) → i + n < length s → bits s i n < 128 → Passed (longest utf8Octets) s (i + suc n)
+  ascii-run zero h k = ascii-next p (omega arith) k
+  ascii-run (suc n) h k =
+      let e : i + suc n + 1 ≡ i + suc (suc n) = omega arith in
+      let (f, l) = or-below (bits s i n) (getD s (i + suc n) 0) k in
+      rw e at (ascii-next (ascii-run n (omega arith) f) h l)
+
+  pub ascii-eight : 8 ≤ length s - i → bits s i 7 < 128 → Passed (longest utf8Octets) s (i + 8)
+  ascii-eight h k = ascii-run 7 (omega arith) k
+
 module _ (s : List ℕ) (n : ℕ) (e : n ≡ longest utf8Octets s) where
   all-read : utf8Octets s ≡ eqb n (length s)
   unfolding _thenMany_ nothing
@@ -136,6 +177,10 @@ pub ruleset laws = (
   tails-above,
   tails-next,
   tails-end,
+  ascii-passed,
+  ascii-next,
+  ascii-part,
+  ascii-eight,
   check-well,
   check-ill,
 )

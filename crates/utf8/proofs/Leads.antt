@@ -1,6 +1,6 @@
 -- UTF8-char by its first byte: a table of the grammar's nine forms. Where no form's range of first bytes ends inside a zone, every byte of
 -- the zone is followed by what follows its least byte, where antt computes. Assumes nothing.
-use Prim.Native.Nat.{ℕ, _≤_}
+use Prim.Native.Nat.{ℕ, _≤_, _<_}
 use mathlib.Core.Path.{_≡_, refl, _∙_}
 use mathlib.Core.List.{List, [], _∷_}
 use mathlib.Core.Bool.{Bool, true, false, _&&_, _||_, cond, and-false, or-false, or-assoc}
@@ -8,7 +8,7 @@ use native.Mathlib.Omega.{arith}
 use lib.Dec.{leb, ltb}
 use borrow.Author.Tests.{ltb-true, leb-true, le-leb, lt-leb}
 use Rattle.text.proofs.Bools.{and-left, and-right}
-use Rattle.abnf.specs.Rule.{Rule, _or_}
+use Rattle.abnf.specs.Rule.{Rule, nothing, _or_}
 use Rattle.abnf.proofs.Rules.{range-first, range-then}
 use Rattle.utf8.specs.Utf8.{utf8Char}
 use Rattle.utf8.specs.Lead.{tails}
@@ -91,3 +91,8 @@ after-zone a z b (f ∷ fs) p q h t =
 pub lead-zone : (a z : ℕ) {b : ℕ} {g : Rule} → zone a z forms ≡ true → a ≤ b → b ≤ z
     → ((t : List ℕ) → after forms a t ≡ g t) → (t : List ℕ) → utf8Char (b ∷ t) ≡ g t
 lead-zone a z {b} h p q e t = char-after b t ∙ (after-zone a z b forms p q h t ∙ e t)
+
+-- a byte below 128 is a whole UTF8-char
+pub ascii-whole : (c : ℕ) → c < 128 → (t : List ℕ) → utf8Char (c ∷ t) ≡ nothing t
+unfolding after
+ascii-whole c h = lead-zone 0x00 0x7F refl (omega arith) (omega arith) (λ t. or-false (nothing t))

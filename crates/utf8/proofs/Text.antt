@@ -3,7 +3,7 @@
 use Prim.Native.Nat.{ℕ, zero, suc, _<_}
 use mathlib.Core.Path.{_≡_, refl, sym, ap, _∙_, fun-ext}
 use mathlib.Core.List.{List, [], _∷_, _++_}
-use mathlib.Core.Bool.{Bool, true, _&&_, and-false, or-false}
+use mathlib.Core.Bool.{Bool, true, _&&_, and-false}
 use native.Mathlib.Omega.{arith}
 use lib.Dec.{leb, ltb}
 use lib.ListN.{length}
@@ -18,7 +18,7 @@ use Rattle.abnf.proofs.Longest.{longest-le, longest-all}
 use Rattle.utf8.specs.declared.Utf8.the-variants.{Well, Ill}
 use Rattle.utf8.specs.Utf8.{utf8Char, utf8Octets, utf8Of}
 use Rattle.utf8.specs.Lead.{tails}
-use Rattle.utf8.proofs.Leads.{Form, forms, after, char-after, lead-zone}
+use Rattle.utf8.proofs.Leads.{Form, forms, after, char-after, ascii-whole}
 
 -- well-formed is a text of UTF8-octets, and nothing else
 pub well-octets : (s : List ℕ) → utf8Of s ≡ Well → utf8Octets s ≡ true
@@ -39,12 +39,7 @@ utf8-ill s n h =
     let d = eqb-false (longest utf8Octets s) (length s) (sym (longest-all utf8Octets refl s) ∙ e) in
     omega (arith, longest-le utf8Octets s))
 
--- a byte below 128 is a whole UTF8-char
-ascii-whole : (c : ℕ) → c < 128 → (t : List ℕ) → utf8Char (c ∷ t) ≡ nothing t
-unfolding after
-ascii-whole c h = lead-zone 0x00 0x7F refl (omega arith) (omega arith) (λ t. or-false (nothing t))
-
--- it is no byte behind a first one
+-- a byte below 128 is no byte behind a first one
 tails-lack : (c n lo hi : ℕ) → c < lo → c < 128 → Lacks c (tails n lo hi)
 tails-lack c zero lo hi h k = lacks-nothing
 tails-lack c (suc zero) lo hi h k = lacks-range lo hi (simp (lt-leb lo c h))

@@ -4,6 +4,7 @@ ghost use mathlib.Core.List.{List, _∷_};
 ghost use Prim.Native.Nat.{ℕ};
 ghost use Rattle.utf8.specs.Utf8.{utf8Char, utf8Of};
 ghost use Rattle.utf8.specs.Lead.{goesOn};
+ghost use Rattle.utf8.specs.Passes.{Passes};
 
 // Well-formed, or the place where the first ill-formed sequence starts.
 pub enum Utf8 {
@@ -35,12 +36,50 @@ fn lead_of(first: u8) -> Lead
     }
 }
 
+// Passes bytes below 128, eight a turn, and stops where one of the next eight is 128 or more, or fewer are left.
+fn pass_ascii_by_eights(s: &[u8]) -> usize
+    ensures { λ r. ⌜ Passes (now (s .entry)) r ⌝ }
+{
+    let mut i = 0;
+    while 8 <= s.len() - i {
+        let next = i + 8; // ahead of the test: the eight then compile to one test of a word
+        let bits = s[i]
+            | s[i + 1]
+            | s[i + 2]
+            | s[i + 3]
+            | s[i + 4]
+            | s[i + 5]
+            | s[i + 6]
+            | s[i + 7];
+        if 0x80 <= bits {
+            return i;
+        }
+        i = next;
+    }
+    i
+}
+
+// Passes the bytes below 128 at the front: each is a sequence of its own.
+fn pass_ascii(s: &[u8]) -> usize
+    ensures { λ r. ⌜ Passes (now (s .entry)) r ⌝ }
+{
+    let mut i = pass_ascii_by_eights(s);
+    while i < s.len() {
+        if 0x80 <= s[i] {
+            return i;
+        }
+        i += 1;
+    }
+    i
+}
+
 // Sequence by sequence: `at` is where the present one starts, and `next` goes over the bytes behind its first.
 pub fn check_utf8(s: &[u8]) -> Utf8
     ensures { λ r. ⌜ r ≡ utf8Of (now (s .entry)) ⌝ }
 {
     let mut at: usize = 0;
     let found = 'sequences: loop {
+        at += pass_ascii(&s[at..]);
         if s.len() <= at {
             break 'sequences at;
         }

@@ -1,11 +1,9 @@
+-- `lines::start` meets its contract: the state of the empty text.
 use borrow.Author.Needs.{needs}
 use Rattle.lines.proofs.Laws.{laws}
 use Rattle.lines.proofs.start.Statement.{statement}
 use Rattle.lines.proofs.start.Tie as tie
-use Rattle.lines.proofs.start.Reads as reads
-use Rattle.lines.proofs.start.Lts as lts
 
--- src/lib.rt:189:1
 returns : tie.Need-returns
 returns c = search (needs, laws)
 

@@ -13,8 +13,8 @@ abbrev μ-loop : tie.MeasureT-loop
 open-line-requires : tie.Need-open-line-requires Inv-loop μ-loop
 open-line-requires c κs = search (needs, laws)
 
-large-buffer-requires : tie.Need-large-buffer-requires Inv-loop μ-loop
-large-buffer-requires c κs = search (needs, laws)
+input-requires : tie.Need-input-requires Inv-loop μ-loop
+input-requires c κs = search (needs, laws)
 
 output-requires : tie.Need-output-requires Inv-loop μ-loop
 output-requires c κs = search (needs, laws)
@@ -80,7 +80,7 @@ report-input-spec =
     Inv-loop
     μ-loop
     open-line-requires
-    large-buffer-requires
+    input-requires
     output-requires
     slice-aggregate-space
     slice-aggregate-room

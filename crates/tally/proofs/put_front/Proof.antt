@@ -1,40 +1,30 @@
+-- `tally::put_front` meets its contract: three items, one behind another.
 use Rattle.tally.proofs.Laws.{laws}
 use borrow.Author.Needs.{needs}
 use Rattle.tally.proofs.put_front.Statement.{statement}
 use Rattle.tally.proofs.put_front.Tie as tie
-use Rattle.tally.proofs.put_front.Reads as reads
-use Rattle.tally.proofs.put_front.Lts as lts
-use Rattle.tally.proofs.put_item.Reads as put-item-reads
 
--- src/lib.rt:51:32
 slice-aggregate-put-item : tie.Need-slice-aggregate-put-item
 slice-aggregate-put-item c = search needs
 
--- src/lib.rt:51:9
 put-item-requires : tie.Need-put-item-requires
 put-item-requires c κs = search needs
 
--- src/lib.rt:52:33
 slice-aggregate-put-item-2 : tie.Need-slice-aggregate-put-item-2
 slice-aggregate-put-item-2 c = search needs
 
--- src/lib.rt:52:9
 put-item-requires-2 : tie.Need-put-item-requires-2
 put-item-requires-2 c κs = search needs
 
--- src/lib.rt:53:24
 slice-aggregate-put-item-3 : tie.Need-slice-aggregate-put-item-3
 slice-aggregate-put-item-3 c = search needs
 
--- src/lib.rt:53:5
 put-item-requires-3 : tie.Need-put-item-requires-3
 put-item-requires-3 c κs = search needs
 
--- src/lib.rt:48:1
 same-length : tie.Need-same-length
 same-length c = search needs
 
--- src/lib.rt:48:1
 returns : tie.Need-returns
 returns c = search (needs, laws)
 

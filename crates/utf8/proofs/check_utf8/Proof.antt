@@ -27,6 +27,21 @@ abbrev μ-sequences : tie.MeasureT-sequences
 sequences-holds : tie.Need-sequences-holds Inv-tails μ-tails Inv-sequences μ-sequences
 sequences-holds c = search (needs, laws)
 
+sub-pass-ascii : tie.Need-sub-pass-ascii Inv-tails μ-tails Inv-sequences μ-sequences
+sub-pass-ascii c = search (needs, laws)
+
+part-pass-ascii-start : tie.Need-part-pass-ascii-start Inv-tails μ-tails Inv-sequences μ-sequences
+part-pass-ascii-start c = search (needs, laws)
+
+part-pass-ascii-end : tie.Need-part-pass-ascii-end Inv-tails μ-tails Inv-sequences μ-sequences
+part-pass-ascii-end c = search (needs, laws)
+
+pass-ascii-requires : tie.Need-pass-ascii-requires Inv-tails μ-tails Inv-sequences μ-sequences
+pass-ascii-requires c κs = search (needs, laws)
+
+add-at : tie.Need-add-at Inv-tails μ-tails Inv-sequences μ-sequences
+add-at c = search (needs, laws)
+
 shared-slice-read-lead-of :
     tie.Need-shared-slice-read-lead-of Inv-tails μ-tails Inv-sequences μ-sequences
 shared-slice-read-lead-of c = search (needs, laws)
@@ -69,7 +84,7 @@ sequences-again c = search (needs, laws)
 
 -- by whichever `break` the loop was left, it yielded the length of the longest well-formed front
 found-is : (c : tie.Joined1 Inv-tails μ-tails Inv-sequences μ-sequences)
-    → c .if1 .found ≡ longest utf8Octets (now (c .before .before .before .args .s))
+    → c .if1 .found ≡ longest utf8Octets (now (c .before .before .before .before .before .args .s))
 found-is c =
     ⊎-elim (λ w. w .1 ∙ search (needs, laws))
     (⊎-elim (λ w. w .5 ∙ search (needs, laws))
@@ -93,6 +108,11 @@ check-utf8-spec =
     Inv-sequences
     μ-sequences
     sequences-holds
+    sub-pass-ascii
+    part-pass-ascii-start
+    part-pass-ascii-end
+    pass-ascii-requires
+    add-at
     shared-slice-read-lead-of
     lead-of-requires
     enum-known-more

@@ -1,0 +1,111 @@
+-- `utf8::pass_ascii_by_eights` meets its contract: where the `|` of bytes is below 128, each of them is.
+use Rattle.utf8.proofs.Laws.{laws}
+use Rattle.utf8.specs.Utf8.{utf8Octets}
+use Rattle.abnf.specs.Rule.{longest}
+use Rattle.text.proofs.Left.{Passed}
+use Prim.Native.Nat.{_-_}
+use lib.ListN.{length}
+use borrow.Author.Needs.{needs}
+use Rattle.utf8.proofs.pass_ascii_by_eights.Statement.{statement}
+use Rattle.utf8.proofs.pass_ascii_by_eights.Tie as tie
+
+abbrev Inv-loop : tie.InvT-loop
+Inv-loop s i₀ i = Passed (longest utf8Octets) s i
+
+abbrev μ-loop : tie.MeasureT-loop
+μ-loop s i₀ i = length s - i
+
+loop-holds : tie.Need-loop-holds Inv-loop μ-loop
+loop-holds c = search (needs, laws)
+
+sub-loop : tie.Need-sub-loop Inv-loop μ-loop
+sub-loop c = search (needs, laws)
+
+add-next : tie.Need-add-next Inv-loop μ-loop
+add-next c = search (needs, laws)
+
+shared-slice-read-bits : tie.Need-shared-slice-read-bits Inv-loop μ-loop
+shared-slice-read-bits c = search (needs, laws)
+
+add-bits : tie.Need-add-bits Inv-loop μ-loop
+add-bits c = search (needs, laws)
+
+shared-slice-read-bits-2 : tie.Need-shared-slice-read-bits-2 Inv-loop μ-loop
+shared-slice-read-bits-2 c = search (needs, laws)
+
+add-bits-2 : tie.Need-add-bits-2 Inv-loop μ-loop
+add-bits-2 c = search (needs, laws)
+
+shared-slice-read-bits-3 : tie.Need-shared-slice-read-bits-3 Inv-loop μ-loop
+shared-slice-read-bits-3 c = search (needs, laws)
+
+add-bits-3 : tie.Need-add-bits-3 Inv-loop μ-loop
+add-bits-3 c = search (needs, laws)
+
+shared-slice-read-bits-4 : tie.Need-shared-slice-read-bits-4 Inv-loop μ-loop
+shared-slice-read-bits-4 c = search (needs, laws)
+
+add-bits-4 : tie.Need-add-bits-4 Inv-loop μ-loop
+add-bits-4 c = search (needs, laws)
+
+shared-slice-read-bits-5 : tie.Need-shared-slice-read-bits-5 Inv-loop μ-loop
+shared-slice-read-bits-5 c = search (needs, laws)
+
+add-bits-5 : tie.Need-add-bits-5 Inv-loop μ-loop
+add-bits-5 c = search (needs, laws)
+
+shared-slice-read-bits-6 : tie.Need-shared-slice-read-bits-6 Inv-loop μ-loop
+shared-slice-read-bits-6 c = search (needs, laws)
+
+add-bits-6 : tie.Need-add-bits-6 Inv-loop μ-loop
+add-bits-6 c = search (needs, laws)
+
+shared-slice-read-bits-7 : tie.Need-shared-slice-read-bits-7 Inv-loop μ-loop
+shared-slice-read-bits-7 c = search (needs, laws)
+
+add-bits-7 : tie.Need-add-bits-7 Inv-loop μ-loop
+add-bits-7 c = search (needs, laws)
+
+shared-slice-read-bits-8 : tie.Need-shared-slice-read-bits-8 Inv-loop μ-loop
+shared-slice-read-bits-8 c = search (needs, laws)
+
+returns : tie.Need-returns Inv-loop μ-loop
+returns c = search (needs, laws)
+
+loop-less : tie.Need-loop-less Inv-loop μ-loop
+loop-less c = search (needs, laws)
+
+loop-again : tie.Need-loop-again Inv-loop μ-loop
+loop-again c = search (needs, laws)
+
+returns-2 : tie.Need-returns-2 Inv-loop μ-loop
+returns-2 c = search (needs, laws)
+
+pub pass-ascii-by-eights-spec : {M : Type 1} → statement M
+pass-ascii-by-eights-spec =
+    tie.close
+    (tie.spec
+    Inv-loop
+    μ-loop
+    loop-holds
+    sub-loop
+    add-next
+    shared-slice-read-bits
+    add-bits
+    shared-slice-read-bits-2
+    add-bits-2
+    shared-slice-read-bits-3
+    add-bits-3
+    shared-slice-read-bits-4
+    add-bits-4
+    shared-slice-read-bits-5
+    add-bits-5
+    shared-slice-read-bits-6
+    add-bits-6
+    shared-slice-read-bits-7
+    add-bits-7
+    shared-slice-read-bits-8
+    returns
+    loop-less
+    loop-again
+    returns-2)
