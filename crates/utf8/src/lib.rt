@@ -42,7 +42,6 @@ fn pass_ascii_by_eights(s: &[u8]) -> usize
 {
     let mut i = 0;
     while 8 <= s.len() - i {
-        let next = i + 8; // ahead of the test: the eight then compile to one test of a word
         let bits = s[i]
             | s[i + 1]
             | s[i + 2]
@@ -54,7 +53,7 @@ fn pass_ascii_by_eights(s: &[u8]) -> usize
         if 0x80 <= bits {
             return i;
         }
-        i = next;
+        i += 8;
     }
     i
 }

@@ -62,8 +62,17 @@ enum-told-3 c = search needs
 enum-told-4 : tie.Need-enum-told-4 Inv-loop μ-loop
 enum-told-4 c = search needs
 
+enum-told-5 : tie.Need-enum-told-5 Inv-loop μ-loop
+enum-told-5 c = search needs
+
+returns : tie.Need-returns Inv-loop μ-loop
+returns c = search needs
+
 print-held-requires : tie.Need-print-held-requires Inv-loop μ-loop
 print-held-requires c κs = search needs
+
+returns-2 : tie.Need-returns-2 Inv-loop μ-loop
+returns-2 c = search needs
 
 slice-aggregate-say : tie.Need-slice-aggregate-say Inv-loop μ-loop
 slice-aggregate-say c = search needs
@@ -74,8 +83,8 @@ say-requires c κs = search needs
 say-counts-requires : tie.Need-say-counts-requires Inv-loop μ-loop
 say-counts-requires c κs = search needs
 
-returns : tie.Need-returns Inv-loop μ-loop
-returns c = search needs
+returns-3 : tie.Need-returns-3 Inv-loop μ-loop
+returns-3 c = search needs
 
 pub main-spec : {M : Type 1} → statement M
 main-spec =
@@ -100,8 +109,11 @@ main-spec =
     loop-again-2
     enum-told-3
     enum-told-4
+    enum-told-5
+    returns
     print-held-requires
+    returns-2
     slice-aggregate-say
     say-requires
     say-counts-requires
-    returns)
+    returns-3)

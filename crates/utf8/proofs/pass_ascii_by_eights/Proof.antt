@@ -21,9 +21,6 @@ loop-holds c = search (needs, laws)
 sub-loop : tie.Need-sub-loop Inv-loop μ-loop
 sub-loop c = search (needs, laws)
 
-add-next : tie.Need-add-next Inv-loop μ-loop
-add-next c = search (needs, laws)
-
 shared-slice-read-bits : tie.Need-shared-slice-read-bits Inv-loop μ-loop
 shared-slice-read-bits c = search (needs, laws)
 
@@ -72,6 +69,9 @@ shared-slice-read-bits-8 c = search (needs, laws)
 returns : tie.Need-returns Inv-loop μ-loop
 returns c = search (needs, laws)
 
+add-i : tie.Need-add-i Inv-loop μ-loop
+add-i c = search (needs, laws)
+
 loop-less : tie.Need-loop-less Inv-loop μ-loop
 loop-less c = search (needs, laws)
 
@@ -89,7 +89,6 @@ pass-ascii-by-eights-spec =
     μ-loop
     loop-holds
     sub-loop
-    add-next
     shared-slice-read-bits
     add-bits
     shared-slice-read-bits-2
@@ -106,6 +105,7 @@ pass-ascii-by-eights-spec =
     add-bits-7
     shared-slice-read-bits-8
     returns
+    add-i
     loop-less
     loop-again
     returns-2)
