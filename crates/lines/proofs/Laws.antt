@@ -100,10 +100,10 @@ unfolding countedAll
 replies-pass {line = line} t t₁ q c = record { put = rw (printed-one line) (q .put); totals = c ∙ ap (counted t) (q .kind) }
 
 -- `length_without_cr`
-module _ (raw : List ℕ) (b : Bool) (e : b ≡ endsIn 13 raw) where
-  pub cut-some : b ≡ true → 1 ≤ length raw
-  cut-some h = ends-some 13 raw (sym e ∙ h)
+pub cut-some : (raw : List ℕ) (x : ℕ) (b : Bool) → b ≡ endsIn x raw → b ≡ true → 1 ≤ length raw
+cut-some raw x b e h = ends-some x raw (sym e ∙ h)
 
+module _ (raw : List ℕ) (b : Bool) (e : b ≡ endsIn 13 raw) where
   pub cut-length : b ≡ true → length raw - 1 ≡ length (withoutCr raw)
   unfolding withoutCr
   cut-length h = sym (simp (sym e ∙ h) (length-take-le (length raw - 1) raw (omega arith)))

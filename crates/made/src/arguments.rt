@@ -17,24 +17,24 @@ use clock::PtpVersion;
 use clock::Rate;
 use text::Place;
 
-pub struct Arguments {
+pub(crate) struct Arguments {
     // A host, a name or a domain name; a value; a tag or a version.
-    pub p: Place,
-    pub q: Place,
-    pub r: Place,
+    pub(crate) p: Place,
+    pub(crate) q: Place,
+    pub(crate) r: Place,
     // The halves of the id.
-    pub high: u32,
-    pub low: u32,
+    pub(crate) high: u32,
+    pub(crate) low: u32,
     // An offset, and what its last two bytes and its last one are: a port and a domain number.
-    pub x: u32,
-    pub port: u16,
-    pub domain: u8,
-    pub numerator: u32,
-    pub denominator: u32,
-    pub version: u8,
-    pub src: bool,
+    pub(crate) x: u32,
+    pub(crate) port: u16,
+    pub(crate) domain: u8,
+    pub(crate) numerator: u32,
+    pub(crate) denominator: u32,
+    pub(crate) version: u8,
+    pub(crate) src: bool,
     // Which case an argument that is an enum or an option has.
-    pub case: u8,
+    pub(crate) case: u8,
 }
 
 fn joined(high: u8, low: u8) -> u16 {
@@ -42,7 +42,7 @@ fn joined(high: u8, low: u8) -> u16 {
 }
 
 // The bytes from a place on as a number, the first byte highest.
-pub fn two(h: &[u8; 39], at: usize) -> u16
+pub(crate) fn two(h: &[u8; 39], at: usize) -> u16
     requires { ⌜ at ≤ 37 ⌝ }
 {
     joined(h[at], h[at + 1])
@@ -65,7 +65,7 @@ fn place(h: &[u8; 39], at: usize) -> Place
 
 impl Arguments {
     // From the bytes before a frame's value, of which the first three are the row and the length.
-    pub fn of(h: &[u8; 39]) -> Arguments {
+    pub(crate) fn of(h: &[u8; 39]) -> Arguments {
         Arguments {
             p: place(h, 3),
             q: place(h, 7),
@@ -83,15 +83,15 @@ impl Arguments {
         }
     }
 
-    pub fn id(self) -> u64 {
+    pub(crate) fn id(self) -> u64 {
         (self.high as u64) << 32 | self.low as u64
     }
 
-    pub fn eui(self) -> Eui64 {
+    pub(crate) fn eui(self) -> Eui64 {
         Eui64 { id: self.id() }
     }
 
-    pub fn rate(self) -> Rate {
+    pub(crate) fn rate(self) -> Rate {
         Rate {
             numerator: self.numerator,
             denominator: self.denominator,
@@ -99,7 +99,7 @@ impl Arguments {
     }
 
     // 0 to 2 are the versions of IEEE, in the order of the module, else the version is the text at `r`.
-    pub fn ptp_version(self) -> PtpVersion {
+    pub(crate) fn ptp_version(self) -> PtpVersion {
         let version = self.version;
         let r = self.r;
         match version {
@@ -111,7 +111,7 @@ impl Arguments {
     }
 
     // Case 0 a name, else a number, of which nothing is asked.
-    pub fn ptp_domain(self) -> PtpDomain {
+    pub(crate) fn ptp_domain(self) -> PtpDomain {
         let name = self.p;
         if self.case == 0 {
             return PtpDomain::DomainName { name };
@@ -120,7 +120,7 @@ impl Arguments {
     }
 
     // Case 0 traceable, 1 a GMID alone, else a GMID with the domain number x.
-    pub fn ptp_server(self) -> PtpServer {
+    pub(crate) fn ptp_server(self) -> PtpServer {
         let case = self.case;
         match case {
             0 => PtpServer::Traceable,
@@ -129,7 +129,7 @@ impl Arguments {
         }
     }
 
-    pub fn ptp(self) -> Ptp {
+    pub(crate) fn ptp(self) -> Ptp {
         Ptp {
             version: self.ptp_version(),
             server: self.ptp_server(),
@@ -137,7 +137,7 @@ impl Arguments {
     }
 
     // Case 0 traceable, 1 a host, else a host and a port.
-    pub fn ntp_server(self) -> NtpServerAddr {
+    pub(crate) fn ntp_server(self) -> NtpServerAddr {
         let case = self.case;
         let host = self.p;
         match case {
@@ -147,14 +147,14 @@ impl Arguments {
         }
     }
 
-    pub fn ntp(self) -> Ntp {
+    pub(crate) fn ntp(self) -> Ntp {
         Ntp {
             server: self.ntp_server(),
         }
     }
 
     // Case 0 standard, else traceable.
-    pub fn private_source(self) -> PrivateSource {
+    pub(crate) fn private_source(self) -> PrivateSource {
         if self.case == 0 {
             return PrivateSource::Standard;
         }
@@ -162,7 +162,7 @@ impl Arguments {
     }
 
     // Case 0 the name alone, else with the text at `r` as its value.
-    pub fn source_ext(self) -> ClockSourceExt {
+    pub(crate) fn source_ext(self) -> ClockSourceExt {
         let name = self.p;
         let value = self.r;
         if self.case == 0 {
@@ -171,7 +171,7 @@ impl Arguments {
         ClockSourceExt::with_value(name, value)
     }
 
-    pub fn media_ext(self) -> MediaClockExt {
+    pub(crate) fn media_ext(self) -> MediaClockExt {
         let name = self.p;
         let value = self.r;
         if self.case == 0 {
@@ -181,7 +181,7 @@ impl Arguments {
     }
 
     // Case 0 the sender, 1 direct with offset and rate, 2 a stream, else an extension with a value.
-    pub fn media_clock(self) -> MediaClock {
+    pub(crate) fn media_clock(self) -> MediaClock {
         let case = self.case;
         let name = self.p;
         let value = self.q;
@@ -193,13 +193,13 @@ impl Arguments {
         }
     }
 
-    pub fn media_clock_id(self) -> MediaClockId {
+    pub(crate) fn media_clock_id(self) -> MediaClockId {
         let tag = self.r;
         MediaClockId { src: self.src, tag }
     }
 
     // Of case 0 without the flag, else with it.
-    pub fn flagged_id(self) -> MediaClockId {
+    pub(crate) fn flagged_id(self) -> MediaClockId {
         let tag = self.r;
         MediaClockId {
             src: self.case != 0,
@@ -208,7 +208,7 @@ impl Arguments {
     }
 
     // Of version 0 there is no id, else one without the flag and with the text at `q`.
-    pub fn media_clock_source(self) -> MediaClockSource {
+    pub(crate) fn media_clock_source(self) -> MediaClockSource {
         let tag = self.q;
         if self.version == 0 {
             return MediaClockSource::new(self.media_clock());
@@ -217,7 +217,7 @@ impl Arguments {
     }
 
     // Case 0 neither, 1 an offset, 2 a rate, else both; each made of the two halves of the id.
-    pub fn direct(self) -> Direct {
+    pub(crate) fn direct(self) -> Direct {
         let case = self.case;
         let rate = Rate {
             numerator: self.high,

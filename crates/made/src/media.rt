@@ -9,7 +9,7 @@ use clock::MediaClockId;
 use clock::MediaClockSource;
 use clock::Rate;
 
-pub fn made(row: u8, a: Arguments) -> MediaClockSource {
+pub(crate) fn made(row: u8, a: Arguments) -> MediaClockSource {
     if row < 78 {
         return stream(row, a);
     }

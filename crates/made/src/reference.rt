@@ -12,7 +12,7 @@ use clock::TriedPtpDomain;
 use clock::TriedPtpServer;
 use clock::TriedReferenceClock;
 
-pub fn made(row: u8, a: Arguments) -> ReferenceClock {
+pub(crate) fn made(row: u8, a: Arguments) -> ReferenceClock {
     if row < 24 {
         return clock(row, a);
     }
@@ -152,7 +152,7 @@ fn extension(row: u8, a: Arguments) -> ClockSourceExt {
 }
 
 // The four that try a domain number.
-pub fn tried(row: u8, a: Arguments) -> TriedReferenceClock {
+pub(crate) fn tried(row: u8, a: Arguments) -> TriedReferenceClock {
     match row {
         8 => ReferenceClock::try_from_ptp_gmid_with_domain_number(a.eui(), a.domain),
         42 => tried_ptp(a),
