@@ -9,7 +9,7 @@ use std::path::Path;
 use std::process::ExitCode;
 
 const USAGE: &str = "usage: compare values N SEED -- PROGRAM .. | addresses N SEED -- PROGRAM .. | utf8 3 -- PROGRAM .. | utf8 LEAD -- PROGRAM ..
-       compare made -- PROGRAM .. | lines N SEED | store FOLDER | store-made FOLDER | answer | answer-made";
+       compare made -- PROGRAM .. | lines N SEED | limit | store FOLDER | store-made FOLDER | answer | answer-made";
 
 fn main() -> ExitCode {
     let arguments: Vec<String> = std::env::args().skip(1).collect();
@@ -39,6 +39,7 @@ fn run(task: &[&str], program: &[String]) -> Result<bool, String> {
             each(utf8::four(lead), program, |_, _, _| ())
         }
         ["lines", n, seed] => done(lines::write(number(n)?, number(seed)?, &mut BufWriter::new(io::stdout().lock()))),
+        ["limit"] => done(lines::write_past_limit(&mut BufWriter::new(io::stdout().lock()))),
         ["made"] => made::compare(program),
         ["store", folder] => done(stored::write(Path::new(folder))),
         ["store-made", folder] => done(made::write(Path::new(folder))),

@@ -1,17 +1,16 @@
 -- One law for each way out of this crate's functions, and the two by which a caller uses its contract. Assumes nothing.
-use Prim.Native.Nat.{ℕ, _+_, _-_, _≤_, _<_}
+use Prim.Native.Nat.{ℕ, _+_, _*_, _≤_, _<_}
 use mathlib.Core.Path.{_≡_, refl, sym, ap, _∙_}
 use mathlib.Core.List.{List, [], _∷_, _++_, append-assoc}
-use mathlib.Core.Bool.{Bool, true, false, cond}
-use native.Mathlib.Numerals.{unary-clauses}
+use mathlib.Core.Bool.{Bool, true, false, not}
 use native.Mathlib.Omega.{arith}
-use lib.Dec.{ltb, leb}
-use lib.ListN.{length, take, drop, set, length-append, length-drop, length-set, take-append-drop}
-use lib.Seq.{set-split, take-at, take-append-seam, drop-append-le, drop-append-add, drop-drop, length-take-le}
-use borrow.Author.Tests.{lt-ltb, le-ltb, le-leb, lt-leb, ltb-true, ltb-false, leb-true, leb-false}
+use lib.Dec.{ltb}
+use lib.ListN.{length, take, drop, length-append, length-take}
+use lib.Seq.{take-at}
+use borrow.Author.Tests.{lt-ltb, le-ltb, le-leb, lt-leb, ltb-false}
 use Rattle.text.specs.Word.{word, starts}
-use Rattle.text.proofs.Bools.{by-bool}
-use Rattle.text.proofs.Cuts.{starts-long}
+use Rattle.text.proofs.Bools.{by-bool, clash}
+use Rattle.text.proofs.Cuts.{starts-long, starts-front, starts-cut}
 use Rattle.text.proofs.Left.{rest, rest-is}
 use Rattle.number.specs.Decimal.{decimal}
 use Rattle.clock.specs.declared.Refusal.{Refusal}
@@ -21,24 +20,19 @@ use Rattle.clock.specs.declared.ReferenceClockRead.the-variants as ref
 use Rattle.clock.specs.declared.MediaClockSource.{MediaClockSource}
 use Rattle.clock.specs.declared.MediaClockSourceRead.{MediaClockSourceRead}
 use Rattle.clock.specs.declared.MediaClockSourceRead.the-variants as media
-use Rattle.clock.specs.declared.Wrote.{Wrote}
-use Rattle.clock.specs.declared.Wrote.the-variants as wrote
-use Rattle.clock.specs.declared.WriteRefusal.{WriteRefusal}
-use Rattle.clock.specs.declared.WriteRefusal.the-variants as refused
 use Rattle.meaning.specs.ReferenceClock.{readReferenceClock}
 use Rattle.meaning.specs.MediaClock.{readMediaClockSource}
 use Rattle.meaning.specs.Text.{referenceClockText, mediaClockSourceText}
-use Rattle.meaning.specs.Written.{wroteOf, roomAfter}
-use Rattle.writing.specs.Writes.{Writes}
 use Rattle.room.specs.Put.{Put}
-use Rattle.room.proofs.Laws.{put-then, put-front}
+use Rattle.room.proofs.Laws.{put-then, put-wider, put-front}
 use Rattle.report.specs.declared.Kind.{Kind}
 use Rattle.report.specs.declared.Kind.the-variants.{Accepted, Refused, Other, Long}
 use Rattle.report.specs.Reply.{Reply, reply, okReply, noReply, tsRefclkReply, mediaclkReply, replyTo}
 use Rattle.report.proofs.Bounds.{Writable, ref-writable, media-writable}
 use Rattle.answer.specs.declared.Answered.{Answered}
 use Rattle.answer.specs.Answers.{withFront, Answers}
-use Rattle.answer.specs.Parts.{replyOf, textLength, framed, Frames}
+use Rattle.answer.specs.Parts.{replyOf, Puts}
+use Rattle.answer.specs.Plain.{plain, plainReply}
 
 -- a text fits the room, or it does not
 pub front-fits : (t room : List ℕ) → length t ≤ length room → withFront t room ≡ t ++ drop (length t) room
@@ -56,12 +50,6 @@ module _ {x : Reply} {room after : List ℕ} {r : Answered} (p : Answers x room 
 
   pub answer-kept : length room < r .len → after ≡ room
   answer-kept h = p .leaves ∙ front-not (x .says) room (omega (arith, p .len))
-
--- of a part that is empty nothing is changed
-front-nothing : (t room : List ℕ) → withFront t [] ++ room ≡ room
-unfolding withFront
-front-nothing [] room = refl
-front-nothing (a ∷ t) room = ap (λ (x : List ℕ). x ++ room) (front-not (a ∷ t) [] (omega arith))
 
 abbrev answered : Kind → ℕ → Answered
 answered k n = record { kind = k; len = n }
@@ -109,212 +97,147 @@ module _ (r : Refusal) (l m : List ℕ) (n : ℕ) (e : length l ≡ 66) (p : Put
   unfolding noReply
   refusal-said room x after q = rw refusal-text at q
 
--- `text_length`
-module _ (w : Wrote) where
-  pub length-written : (n : ℕ) → w ≡ wrote.Length n → n ≡ textLength w
-  unfolding textLength
-  length-written n e = simp e
+-- `put_no`
+pub no-put : (r : Refusal) (room : List ℕ) (next : ℕ) (after : List ℕ) → Put 66 room 0 (noReply r .says) next after
+    → Puts (noReply r) room (answered Refused next) after
+unfolding noReply
+no-put r room next after p = record { kind = refl; put = put-wider p (omega arith) }
 
-  module _ (why : WriteRefusal) (e : w ≡ wrote.Refused why) where
-    pub length-room : (n : ℕ) → why ≡ refused.Room n → n ≡ textLength w
-    unfolding textLength
-    length-room n f = simp (e, f)
+-- `put_ok_clock` and `put_ok_source`
+module _ {v t : List ℕ} {inside : Bool} (can : Writable v inside t) {most at end : ℕ} {room l m : List ℕ}
+    (p : Put 3 room 0 (word "ok ") at l) (q : Put most l at t end m) where
+  ok-asks : end + 1 ≤ 65536
+  ok-asks = omega (arith, p .place, q .place, can .longer, can .short)
 
-    pub length-value : (r : Refusal) → why ≡ refused.Value r → 0 ≡ textLength w
-    unfolding textLength
-    length-value r f = simp (e, f)
-
-    pub length-outside : why ≡ refused.Outside → 0 ≡ textLength w
-    unfolding textLength
-    length-outside f = simp (e, f)
-
--- `frame`
-framed-fits : (n : ℕ) (room : List ℕ) → n + 4 ≤ length room → framed n room ≡ word "ok " ++ take n (drop 3 room) ++ 10 ∷ drop (n + 4) room
-unfolding framed
-framed-fits n room h = simp (le-leb (n + 4) (length room) h)
-
-framed-not : (n : ℕ) (room : List ℕ) → length room < n + 4 → framed n room ≡ room
-unfolding framed
-framed-not n room h = simp (lt-leb (n + 4) (length room) h)
-
-set-four : (n : ℕ) (room : List ℕ) → n + 4 ≤ length room
-    → set (set (set (set room 0 111) 1 107) 2 32) (n + 3) 10 ≡ word "ok " ++ take n (drop 3 room) ++ 10 ∷ drop (n + 4) room
-set-four n [] h = absurd (omega arith)
-set-four n (a ∷ []) h = absurd (omega arith)
-set-four n (a ∷ b ∷ []) h = absurd (omega arith)
-set-four n (a ∷ b ∷ c ∷ u) h = simp unary-clauses (ap (λ (x : List ℕ). 111 ∷ 107 ∷ 32 ∷ x) (set-split u n 10 (omega arith)))
-
-module _ (n : ℕ) (room : List ℕ) where
-  pub frame-short : length room < n + 4 → Frames n room (answered Accepted (n + 4)) room
-  frame-short h = record { kind = refl; len = refl; leaves = sym (framed-not n room h) }
-
-  module _ (h : n + 4 ≤ length room) where
-    pub frame-second : (a : ℕ) → 1 < length (set room 0 a)
-    frame-second a = simp length-set (omega arith)
-
-    pub frame-third : (a b : ℕ) → 2 < length (set (set room 0 a) 1 b)
-    frame-third a b = simp length-set (omega arith)
-
-    pub frame-last : (a b c : ℕ) → n + 3 < length (set (set (set room 0 a) 1 b) 2 c)
-    frame-last a b c = simp length-set (omega arith)
-
-    pub frame-stored : Frames n room (answered Accepted (n + 4)) (set (set (set (set room 0 111) 1 107) 2 32) (n + 3) 10)
-    frame-stored = record { kind = refl; len = refl; leaves = set-four n room h ∙ sym (framed-fits n room h) }
-
--- what the writer makes of a record just read, in a part of the room
-module _ {v t : List ℕ} {inside : Bool} (can : Writable v inside t) {part after : List ℕ} {a : Wrote} (w : Writes v inside t part a after) where
-  wrote-cases : wroteOf v inside t (length part) ≡ cond (ltb (length part) (length t)) (wrote.Refused (refused.Room (length t))) (wrote.Length (length t))
-  unfolding wroteOf
-  wrote-cases = simp (le-ltb 1024 (length v) (can .short), can .within)
-
-  wrote-length : textLength a ≡ length t
-  unfolding textLength
-  wrote-length =
-      ap textLength (w .says ∙ wrote-cases)
-      ∙ by-bool (ltb (length part) (length t)) (λ e. simp e) (λ e. simp e)
-
-  wrote-front : after ≡ withFront t part
-  unfolding roomAfter
-  wrote-front =
-      w .leaves ∙ ap (λ (x : Wrote). roomAfter x t part) wrote-cases
-      ∙ by-bool (ltb (length part) (length t))
-      (λ e. simp e (sym (front-not t part (ltb-true (length part) (length t) e))))
-      (λ e. simp e (sym (front-fits t part (ltb-false (length part) (length t) e))))
-
-  module _ (n : ℕ) (e : n ≡ textLength a) where
-    pub frame-asks : n + 4 ≤ 65536
-    frame-asks = omega (arith, e, wrote-length, can .longer, can .short)
-
--- a text at the front of the first k bytes: it fits, or it does not
-module _ (t u : List ℕ) (k : ℕ) (l : k ≤ length u) where
-  first : length (take k u) ≡ k
-  first = length-take-le k u l
-
-  front-within : length t ≤ k → withFront t (take k u) ++ drop k u ≡ t ++ drop (length t) u
-  front-within h =
-      ap (λ (x : List ℕ). x ++ drop k u) (front-fits t (take k u) (omega (arith, first)))
-      ∙ append-assoc t (drop (length t) (take k u)) (drop k u)
-      ∙ ap (λ (x : List ℕ). t ++ x)
-      (sym (drop-append-le (length t) (take k u) (drop k u) (omega (arith, first))) ∙ ap (drop (length t)) (take-append-drop k u))
-
-  front-over : k < length t → withFront t (take k u) ++ drop k u ≡ u
-  front-over h = ap (λ (x : List ℕ). x ++ drop k u) (front-not t (take k u) (omega (arith, first))) ∙ take-append-drop k u
-
-drop-three : (n a b c : ℕ) (u : List ℕ) → drop (n + 4) (a ∷ b ∷ c ∷ u) ≡ drop (n + 1) u
-drop-three n a b c u = simp unary-clauses refl
-
-ok-length : (t : List ℕ) → length (okReply t .says) ≡ length t + 4
-ok-length t = simp length-append (omega arith)
-
--- a text that stands behind the first three bytes, framed
-framed-front : (t u : List ℕ) (a b c : ℕ) → length t + 1 ≤ length u
-    → framed (length t) (a ∷ b ∷ c ∷ (t ++ drop (length t) u)) ≡ withFront (okReply t .says) (a ∷ b ∷ c ∷ u)
-framed-front t u a b c h =
-    let w : List ℕ = t ++ drop (length t) u in
-    let room : List ℕ = a ∷ b ∷ c ∷ u in
-    let i : drop (length t + 4) (a ∷ b ∷ c ∷ w) ≡ drop (length t + 4) room =
-    drop-three (length t) a b c w ∙ drop-append-add t (drop (length t) u) 1 ∙ drop-drop 1 (length t) u ∙ sym (drop-three (length t) a b c u) in
-    framed-fits (length t) (a ∷ b ∷ c ∷ w) (omega (arith, length-append t (drop (length t) u), length-drop (length t) u))
-    ∙ rw (take-append-seam t (drop (length t) u), i) refl
-    ∙ sym (append-assoc (word "ok " ++ t) (10 ∷ []) (drop (length t + 4) room))
-    ∙ sym (front-fits (okReply t .says) room (omega (arith, ok-length t)) ∙ ap (λ (m : ℕ). okReply t .says ++ drop m room) (ok-length t))
-
--- the text was put where it is to stand, and then framed
-ok-framed : (t room : List ℕ) (k : ℕ) → k + 4 ≡ length room
-    → framed (length t) (take 3 room ++ (withFront t (take k (drop 3 room)) ++ drop k (drop 3 room))) ≡ withFront (okReply t .says) room
-ok-framed t [] k h = absurd (omega arith)
-ok-framed t (a ∷ []) k h = absurd (omega arith)
-ok-framed t (a ∷ b ∷ []) k h = absurd (omega arith)
-ok-framed t (a ∷ b ∷ c ∷ u) k h =
-    by-bool (leb (length t) k)
-    (λ e.
-    let l = leb-true (length t) k e in
-    rw (front-within t u k (omega arith) l) (framed-front t u a b c (omega arith)))
-    (λ e.
-    let l = leb-false (length t) k e in
-    rw (front-over t u k (omega arith) l)
-    (framed-not (length t) (a ∷ b ∷ c ∷ u) (omega arith) ∙ sym (front-not (okReply t .says) (a ∷ b ∷ c ∷ u) (omega (arith, ok-length t)))))
-
--- `answer_clock` and `answer_source`
-module _ {v t : List ℕ} {inside : Bool} (can : Writable v inside t) (room : List ℕ) {part after : List ℕ} {a : Wrote} {n : ℕ} {x : Answered} where
-  pub ok-short : length room < 4 → Writes v inside t (take 0 room) a part → n ≡ textLength a → Frames n (part ++ drop 0 room) x after
-      → Answers (okReply t) room x after
-  ok-short h w e f =
-      let i : n ≡ length t = e ∙ wrote-length can w in
-      let j : part ++ room ≡ room = ap (λ (y : List ℕ). y ++ room) (wrote-front can w) ∙ front-nothing t room in
+  pub ok-put : (len : ℕ) (after : List ℕ) → Put 1 m end (10 ∷ []) len after → Puts (okReply t) room (answered Accepted len) after
+  ok-put len after r =
+      let all = put-then (put-then p q) r in
       record {
-        kind = f .kind;
-        len = f .len ∙ omega (arith, ok-length t);
-        leaves =
-            f .leaves ∙ ap (framed n) j ∙ framed-not n room (omega arith)
-            ∙ sym (front-not (okReply t .says) room (omega (arith, ok-length t)));
+        kind = refl;
+        put = record { place = all .place; bound = simp length-append (omega (arith, can .longer, can .short)); bytes = all .bytes };
       }
 
-  pub ok-inside : 4 ≤ length room → Writes v inside t (take (length room - 1 - 3) (drop 3 room)) a part → n ≡ textLength a
-      → Frames n (take 3 room ++ (part ++ drop (length room - 1 - 3) (drop 3 room))) x after
-      → Answers (okReply t) room x after
-  ok-inside h w e f =
-      let i : n ≡ length t = e ∙ wrote-length can w in
-      let k : ℕ = length room - 1 - 3 in
-      record {
-        kind = f .kind;
-        len = f .len ∙ omega (arith, ok-length t);
-        leaves =
-            f .leaves
-            ∙ ap (λ (m : ℕ). framed m (take 3 room ++ (part ++ drop k (drop 3 room)))) i
-            ∙ ap (λ (y : List ℕ). framed (length t) (take 3 room ++ (y ++ drop k (drop 3 room)))) (wrote-front can w)
-            ∙ ok-framed t room k (omega arith);
-      }
+module _ (v : List ℕ) {at : ℕ} {room l : List ℕ} (p : Put 3 room 0 (word "ok ") at l) where
+  module _ (c : ReferenceClock) (e : ref.Accepted c ≡ readReferenceClock v) where
+    pub clock-asks : at + (2 * length v + 55) ≤ 65536
+    clock-asks = omega (arith, p .place, ref-writable v c e .short)
 
--- `answer_ts_refclk`
+    pub clock-end : (end : ℕ) (m : List ℕ) → Put (2 * length v + 55) l at (referenceClockText v c) end m → end + 1 ≤ 65536
+    clock-end end m q = ok-asks (ref-writable v c e) p q
+
+  module _ (s : MediaClockSource) (e : media.Accepted s ≡ readMediaClockSource v) where
+    pub source-asks : at + (3 * length v + 52) ≤ 65536
+    source-asks = omega (arith, p .place, media-writable v s e .short)
+
+    pub source-end : (end : ℕ) (m : List ℕ) → Put (3 * length v + 52) l at (mediaClockSourceText v s) end m → end + 1 ≤ 65536
+    source-end end m q = ok-asks (media-writable v s e) p q
+
+-- `put_ts_refclk`
 module _ (v : List ℕ) (y : ReferenceClockRead) (ey : y ≡ readReferenceClock v) where
   pub ref-read : (c : ReferenceClock) → y ≡ ref.Accepted c → ref.Accepted c ≡ readReferenceClock v
   ref-read c e = sym e ∙ ey
 
   module _ (room after : List ℕ) (x : Answered) where
-    pub ref-ok : (c : ReferenceClock) → y ≡ ref.Accepted c → Answers (okReply (referenceClockText v c)) room x after
-        → Answers (tsRefclkReply v) room x after
+    pub ref-ok : (c : ReferenceClock) → y ≡ ref.Accepted c → Puts (okReply (referenceClockText v c)) room x after
+        → Puts (tsRefclkReply v) room x after
     unfolding tsRefclkReply
     ref-ok c e p = rw (← ey, e) p
 
-    pub ref-no : (r : Refusal) → y ≡ ref.Refused r → Answers (noReply r) room x after → Answers (tsRefclkReply v) room x after
+    pub ref-no : (r : Refusal) → y ≡ ref.Refused r → Puts (noReply r) room x after → Puts (tsRefclkReply v) room x after
     unfolding tsRefclkReply
     ref-no r e p = rw (← ey, e) p
 
--- `answer_mediaclk`
+-- `put_mediaclk`
 module _ (v : List ℕ) (y : MediaClockSourceRead) (ey : y ≡ readMediaClockSource v) where
   pub media-read : (m : MediaClockSource) → y ≡ media.Accepted m → media.Accepted m ≡ readMediaClockSource v
   media-read m e = sym e ∙ ey
 
   module _ (room after : List ℕ) (x : Answered) where
-    pub media-ok : (m : MediaClockSource) → y ≡ media.Accepted m → Answers (okReply (mediaClockSourceText v m)) room x after
-        → Answers (mediaclkReply v) room x after
+    pub media-ok : (m : MediaClockSource) → y ≡ media.Accepted m → Puts (okReply (mediaClockSourceText v m)) room x after
+        → Puts (mediaclkReply v) room x after
     unfolding mediaclkReply
     media-ok m e p = rw (← ey, e) p
 
-    pub media-no : (r : Refusal) → y ≡ media.Refused r → Answers (noReply r) room x after → Answers (mediaclkReply v) room x after
+    pub media-no : (r : Refusal) → y ≡ media.Refused r → Puts (noReply r) room x after → Puts (mediaclkReply v) room x after
     unfolding mediaclkReply
     media-no r e p = rw (← ey, e) p
 
--- `answer_line`
+-- `put_answer`
 module _ (l room after : List ℕ) (x : Answered) where
-  pub line-long : (most : ℕ) → 4096 ≤ most → most < length l → Answers (reply Long (word "long")) room x after → Answers (replyTo l) room x after
+  pub line-long : (most : ℕ) → 4096 ≤ most → most < length l → Puts (reply Long (word "long")) room x after → Puts (replyTo l) room x after
   unfolding replyTo
   line-long most k h p = simp (lt-ltb 4096 (length l) (omega arith)) p
 
   module _ (h : length l ≤ 4096) (s : Bool) (es : s ≡ starts (word "a=ts-refclk:") l) where
-    pub line-ref : s ≡ true → Answers (tsRefclkReply (rest 12 l)) room x after → Answers (replyTo l) room x after
+    pub line-ref : s ≡ true → Puts (tsRefclkReply (rest 12 l)) room x after → Puts (replyTo l) room x after
     unfolding replyTo
     line-ref e p = simp (le-ltb 4096 (length l) h, ← es, e) (rw rest-is at p)
 
     module _ (e : s ≡ false) (m : Bool) (em : m ≡ starts (word "a=mediaclk:") l) where
-      pub line-media : m ≡ true → Answers (mediaclkReply (rest 11 l)) room x after → Answers (replyTo l) room x after
+      pub line-media : m ≡ true → Puts (mediaclkReply (rest 11 l)) room x after → Puts (replyTo l) room x after
       unfolding replyTo
       line-media f p = simp (le-ltb 4096 (length l) h, ← es, e, ← em, f) (rw rest-is at p)
 
-      pub line-other : m ≡ false → Answers (reply Other (word "--")) room x after → Answers (replyTo l) room x after
+      pub line-other : m ≡ false → Puts (reply Other (word "--")) room x after → Puts (replyTo l) room x after
       unfolding replyTo
       line-other f p = simp (le-ltb 4096 (length l) h, ← es, e, ← em, f) p
+
+-- `answer_line`
+module _ (x : Reply) (room after : List ℕ) (r : Answered) (p : Puts x room r after) where
+  put-answers : length (x .says) ≤ length room → Answers x room r after
+  put-answers h =
+      record {
+        kind = p .kind;
+        len = omega (arith, p .put .place);
+        leaves = put-front (p .put) h ∙ sym (front-fits (x .says) room h);
+      }
+
+  pub answers-ample : (most : ℕ) → 1030 ≤ most → most ≤ length room → Answers x room r after
+  answers-ample most k h = put-answers (omega (arith, p .put .bound))
+
+  pub answers-fit : (m : Answered) → (m .kind ≡ x .kind) × (m .len ≡ length (x .says)) → m .len ≤ length room → Answers x room r after
+  answers-fit m e h = put-answers (omega (arith, e .1))
+
+pub answers-short : (x : Reply) (room : List ℕ) (m : Answered) → (m .kind ≡ x .kind) × (m .len ≡ length (x .says)) → length room < m .len
+    → Answers x room m room
+answers-short x room m e h =
+    record { kind = e .0; len = e .1; leaves = sym (front-not (x .says) room (omega (arith, e .1))) }
+
+-- `is_plain`: what it tells
+module _ (l : List ℕ) where
+  pub plain-long : (most : ℕ) → 4096 ≤ most → most < length l → false ≡ plain l
+  unfolding plain
+  plain-long most k h = simp (lt-ltb 4096 (length l) (omega arith))
+
+  module _ (h : length l ≤ 4096) (s : Bool) (es : s ≡ starts (word "a=t") l) where
+    pub plain-ts : s ≡ true → false ≡ plain l
+    unfolding plain
+    plain-ts e = simp (le-ltb 4096 (length l) h, ← es, e)
+
+    pub plain-last : s ≡ false → (m : Bool) → m ≡ starts (word "a=m") l → not m ≡ plain l
+    unfolding plain
+    plain-last e m em = simp (le-ltb 4096 (length l) h, ← es, e, em)
+
+plain-cases : {P : Type 0} (l : List ℕ) → plain l ≡ true
+    → (ltb 4096 (length l) ≡ false → starts (word "a=t") l ≡ false → starts (word "a=m") l ≡ false → P) → P
+unfolding plain
+plain-cases l e f =
+    by-bool (ltb 4096 (length l)) (λ a. clash (cc (simp a at e)))
+    (λ a. by-bool (starts (word "a=t") l) (λ b. clash (cc (simp (a, b) at e)))
+    (λ b. by-bool (starts (word "a=m") l) (λ c. clash (cc (simp (a, b, c) at e))) (λ c. f a b c)))
+
+pub plain-reply : (l : List ℕ) → plain l ≡ true → replyTo l ≡ plainReply
+unfolding replyTo
+plain-reply l e =
+    plain-cases l e
+    (λ a b c. simp (a, starts-front (word "a=t") (word "s-refclk:") l b, starts-front (word "a=m") (word "ediaclk:") l c))
+
+pub plain-cut : (l : List ℕ) (k : ℕ) → plain l ≡ true → plain (take k l) ≡ true
+unfolding plain
+plain-cut l k e =
+    plain-cases l e
+    (λ a b c.
+    simp (le-ltb 4096 (length (take k l)) (omega (arith, length-take k l, ltb-false 4096 (length l) a)), starts-cut (word "a=t") l k b, starts-cut (word "a=m") l k c))
 
 -- a line that begins so has the bytes of the word
 module _ (l : List ℕ) (s : Bool) (e : s ≡ true) where
@@ -332,20 +255,14 @@ pub ruleset laws = (
   refusal-count,
   refusal-asks,
   refusal-said,
-  length-written,
-  length-room,
-  length-value,
-  length-outside,
-  frame-short,
-  frame-second,
-  frame-third,
-  frame-last,
-  frame-stored,
-  frame-asks,
+  no-put,
   ref-writable,
   media-writable,
-  ok-short,
-  ok-inside,
+  ok-put,
+  clock-asks,
+  clock-end,
+  source-asks,
+  source-end,
   ref-read,
   ref-ok,
   ref-no,
@@ -356,6 +273,12 @@ pub ruleset laws = (
   line-ref,
   line-media,
   line-other,
+  answers-ample,
+  answers-fit,
+  answers-short,
   ref-long,
   media-long,
+  plain-long,
+  plain-ts,
+  plain-last,
 )

@@ -12,18 +12,22 @@ ghost use Rattle.number.specs.Decimal.{decimal};
 ghost use Rattle.room.specs.Put.{Put};
 ghost use Rattle.report.specs.Reply.{okReply, noReply, tsRefclkReply, mediaclkReply, replyTo};
 ghost use Rattle.answer.specs.Answers.{Answers};
-ghost use Rattle.answer.specs.Parts.{replyOf, textLength, Frames};
+ghost use Rattle.answer.specs.Plain.{plain, plainReply};
+ghost use Rattle.answer.specs.Parts.{replyOf, Puts};
 use clock::MediaClockSource;
 use clock::MediaClockSourceRead;
 use clock::ReferenceClock;
 use clock::ReferenceClockRead;
 use clock::Refusal;
-use clock::WriteRefusal;
-use clock::Wrote;
+use recordtext::media;
+use recordtext::reference;
 use report::Kind;
 
 // How many bytes a line may have.
 const MOST_BYTES: usize = 4096;
+
+// No answer is longer: `ok `, the text of a value of 1,024 bytes, which may be two bytes longer, and LF.
+const MOST_PRINTED: usize = 1030;
 
 // A line's kind, and the length of what is printed for it: it was printed where the room has so many bytes.
 pub struct Answered {
@@ -41,6 +45,15 @@ fn say(kind: Kind, text: &[u8], room: &mut [u8]) -> Answered
         return Answered { kind, len };
     }
     room::put_bytes(room, 0, text);
+    Answered { kind, len }
+}
+
+// The same, put into any room: what it has no place for is counted and not stored.
+fn put_known(kind: Kind, text: &[u8], room: &mut [u8]) -> Answered
+    requires { ⌜ length (now text) ≤ 1030 ⌝ }
+    ensures { λ r. ⌜ Puts (replyOf kind (now (text .entry))) (now (room .entry)) r (now (room .exit)) ⌝ }
+{
+    let len = room::put_bytes(room, 0, text);
     Answered { kind, len }
 }
 
@@ -71,99 +84,114 @@ pub fn answer_refusal(refusal: Refusal, room: &mut [u8]) -> Answered
     say(Kind::Refused, &text[..len], room)
 }
 
-// How long the text is that was written, or that there was no room for. A record just read is not refused for its value or its places, so 0 is
-// never given for these.
-pub fn text_length(wrote: Wrote) -> usize
-    ensures { λ r. ⌜ r ≡ textLength wrote ⌝ }
+fn put_no(refusal: Refusal, room: &mut [u8]) -> Answered
+    ensures { λ r. ⌜ Puts (noReply refusal) (now (room .entry)) r (now (room .exit)) ⌝ }
 {
-    match wrote {
-        Wrote::Length(n) => n,
-        Wrote::Refused(why) => match why {
-            WriteRefusal::Room(n) => n,
-            WriteRefusal::Value(_) => 0,
-            WriteRefusal::Outside => 0,
-        },
+    let len = put_refusal(room, refusal);
+    Answered {
+        kind: Kind::Refused,
+        len,
     }
 }
 
-// `ok ` before the `len` bytes that stand from the fourth on, and LF behind them, where the room has all these.
-fn frame(room: &mut [u8], len: usize) -> Answered
-    requires { ⌜ len + 4 ≤ 65536 ⌝ }
-    ensures { λ r. ⌜ Frames len (now (room .entry)) r (now (room .exit)) ⌝ }
+// `ok `, the text of a record just read, and LF.
+fn put_ok_clock(clock: ReferenceClock, value: &[u8], room: &mut [u8]) -> Answered
+    requires { ⌜ ref.Accepted clock ≡ readReferenceClock (now value) ⌝ }
+    ensures { λ r. ⌜ Puts (okReply (referenceClockText (now (value .entry)) clock)) (now (room .entry)) r (now (room .exit)) ⌝ }
 {
-    let all = len + 4;
-    if room.len() < all {
-        return Answered {
-            kind: Kind::Accepted,
-            len: all,
-        };
-    }
-    room[0] = b'o';
-    room[1] = b'k';
-    room[2] = b' ';
-    room[len + 3] = b'\n';
+    let text = room::put_bytes(room, 0, b"ok ");
+    let end = reference::put_clock(room, text, value, clock);
+    let len = room::put_byte(room, end, b'\n');
     Answered {
         kind: Kind::Accepted,
-        len: all,
+        len,
     }
 }
 
-// The text of a record just read is written where it is to stand, and then framed. In a room that has no place for the frame it is only measured.
-fn answer_clock(clock: ReferenceClock, value: &[u8], room: &mut [u8]) -> Answered
-    requires { ⌜ ref.Accepted clock ≡ readReferenceClock (now value) ⌝ }
-    ensures { λ r. ⌜ Answers (okReply (referenceClockText (now (value .entry)) clock)) (now (room .entry)) r (now (room .exit)) ⌝ }
-{
-    if room.len() < 4 {
-        let wrote = writing::write_reference_clock(clock, value, &mut room[..0]);
-        return frame(room, text_length(wrote));
-    }
-    let end = room.len() - 1;
-    let wrote = writing::write_reference_clock(clock, value, &mut room[3..end]);
-    frame(room, text_length(wrote))
-}
-
-fn answer_source(source: MediaClockSource, value: &[u8], room: &mut [u8]) -> Answered
+fn put_ok_source(source: MediaClockSource, value: &[u8], room: &mut [u8]) -> Answered
     requires { ⌜ media.Accepted source ≡ readMediaClockSource (now value) ⌝ }
-    ensures { λ r. ⌜ Answers (okReply (mediaClockSourceText (now (value .entry)) source)) (now (room .entry)) r (now (room .exit)) ⌝ }
+    ensures { λ r. ⌜ Puts (okReply (mediaClockSourceText (now (value .entry)) source)) (now (room .entry)) r (now (room .exit)) ⌝ }
 {
-    if room.len() < 4 {
-        let wrote = writing::write_media_clock_source(source, value, &mut room[..0]);
-        return frame(room, text_length(wrote));
+    let text = room::put_bytes(room, 0, b"ok ");
+    let end = media::put_source(room, text, value, source);
+    let len = room::put_byte(room, end, b'\n');
+    Answered {
+        kind: Kind::Accepted,
+        len,
     }
-    let end = room.len() - 1;
-    let wrote = writing::write_media_clock_source(source, value, &mut room[3..end]);
-    frame(room, text_length(wrote))
 }
 
-fn answer_ts_refclk(value: &[u8], room: &mut [u8]) -> Answered
-    ensures { λ r. ⌜ Answers (tsRefclkReply (now (value .entry))) (now (room .entry)) r (now (room .exit)) ⌝ }
+fn put_ts_refclk(value: &[u8], room: &mut [u8]) -> Answered
+    ensures { λ r. ⌜ Puts (tsRefclkReply (now (value .entry))) (now (room .entry)) r (now (room .exit)) ⌝ }
 {
     match refclk::read_reference_clock(value) {
-        ReferenceClockRead::Accepted(clock) => answer_clock(clock, value, room),
-        ReferenceClockRead::Refused(refusal) => answer_refusal(refusal, room),
+        ReferenceClockRead::Accepted(clock) => put_ok_clock(clock, value, room),
+        ReferenceClockRead::Refused(refusal) => put_no(refusal, room),
     }
 }
 
-fn answer_mediaclk(value: &[u8], room: &mut [u8]) -> Answered
-    ensures { λ r. ⌜ Answers (mediaclkReply (now (value .entry))) (now (room .entry)) r (now (room .exit)) ⌝ }
+fn put_mediaclk(value: &[u8], room: &mut [u8]) -> Answered
+    ensures { λ r. ⌜ Puts (mediaclkReply (now (value .entry))) (now (room .entry)) r (now (room .exit)) ⌝ }
 {
     match mediaclk::read_media_clock_source(value) {
-        MediaClockSourceRead::Accepted(source) => answer_source(source, value, room),
-        MediaClockSourceRead::Refused(refusal) => answer_refusal(refusal, room),
+        MediaClockSourceRead::Accepted(source) => put_ok_source(source, value, room),
+        MediaClockSourceRead::Refused(refusal) => put_no(refusal, room),
     }
 }
 
+fn put_answer(line: &[u8], room: &mut [u8]) -> Answered
+    ensures { λ r. ⌜ Puts (replyTo (now (line .entry))) (now (room .entry)) r (now (room .exit)) ⌝ }
+{
+    if MOST_BYTES < line.len() {
+        return put_known(Kind::Long, b"long\n", room);
+    }
+    if text::has_prefix(line, b"a=ts-refclk:") {
+        return put_ts_refclk(&line[12..], room);
+    }
+    if text::has_prefix(line, b"a=mediaclk:") {
+        return put_mediaclk(&line[11..], room);
+    }
+    put_known(Kind::Other, b"--\n", room)
+}
+
+// The kind and the length of a line's answer, which is put into no room.
+fn measure_answer(line: &[u8]) -> Answered
+    ensures { λ r. ⌜ (r .kind ≡ replyTo (now (line .entry)) .kind) × (r .len ≡ length (replyTo (now (line .entry)) .says)) ⌝ }
+{
+    let mut nothing = [0u8; 0];
+    put_answer(line, &mut nothing)
+}
+
+// Only a room that may be too short costs a second reading.
 pub fn answer_line(line: &[u8], room: &mut [u8]) -> Answered
     ensures { λ r. ⌜ Answers (replyTo (now (line .entry))) (now (room .entry)) r (now (room .exit)) ⌝ }
 {
+    if MOST_PRINTED <= room.len() {
+        return put_answer(line, room);
+    }
+    let measured = measure_answer(line);
+    if room.len() < measured.len {
+        return measured;
+    }
+    put_answer(line, room)
+}
+
+// Whether a line is seen at once to be no clock line and not long: it does not begin as the clock lines do. A CR at its end changes nothing.
+pub fn is_plain(line: &[u8]) -> bool
+    ensures { λ r. ⌜ r ≡ plain (now (line .entry)) ⌝ }
+{
     if MOST_BYTES < line.len() {
-        return say(Kind::Long, b"long\n", room);
+        return false;
     }
-    if text::has_prefix(line, b"a=ts-refclk:") {
-        return answer_ts_refclk(&line[12..], room);
+    if text::has_prefix(line, b"a=t") {
+        return false;
     }
-    if text::has_prefix(line, b"a=mediaclk:") {
-        return answer_mediaclk(&line[11..], room);
-    }
+    !text::has_prefix(line, b"a=m")
+}
+
+// The answer to a line that is neither a clock line nor long.
+pub fn answer_plain(room: &mut [u8]) -> Answered
+    ensures { λ r. ⌜ Answers plainReply (now (room .entry)) r (now (room .exit)) ⌝ }
+{
     say(Kind::Other, b"--\n", room)
 }

@@ -1,5 +1,9 @@
 // An EUI-64 as text: 23 bytes, cut at each `-` into segments of two bytes, each a number of base 16.
 ghost use mathlib.Core.Path.{_≡_};
+ghost use Prim.Native.Nat.{_+_, _≤_};
+ghost use lib.Dec.{eqb};
+ghost use lib.ListN.{length, drop};
+ghost use Rattle.text.specs.Find.{before};
 ghost use Rattle.eui64.specs.Eui64.{highDigit, segmentOf, eui64Of, refused};
 use text::Place;
 
@@ -59,6 +63,24 @@ fn read_segment(a: u8, b: u8) -> Segment
     Segment::Byte(value)
 }
 
+// Whether the segment that starts at `at` has two bytes: `-` or the end stands behind them, and no `-` before.
+fn has_two_bytes(s: &[u8], at: usize) -> bool
+    requires { ⌜ at + 2 ≤ length (now s) ⌝ }
+    ensures { λ r. ⌜ r ≡ eqb (before 45 (drop at (now (s .entry)))) 2 ⌝ }
+{
+    if s[at] == b'-' {
+        return false;
+    }
+    if s[at + 1] == b'-' {
+        return false;
+    }
+    let behind = at + 2;
+    if s.len() <= behind {
+        return true;
+    }
+    s[behind] == b'-'
+}
+
 pub fn read_eui64(s: &[u8]) -> Eui64Read
     ensures { λ r. ⌜ r ≡ eui64Of (now (s .entry)) ⌝ }
 {
@@ -70,8 +92,8 @@ pub fn read_eui64(s: &[u8]) -> Eui64Read
     let mut done: usize = 0;
     while done < 8 {
         let at = done * 3;
-        let len = text::find(&s[at..], b'-');
-        if len != 2 {
+        if !has_two_bytes(s, at) {
+            let len = text::find(&s[at..], b'-');
             return refuse(BrokenRule::SegmentLength, at, len);
         }
         let segment = read_segment(s[at], s[at + 1]);

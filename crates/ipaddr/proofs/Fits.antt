@@ -1,11 +1,11 @@
 -- What callers need of an IP address: its bytes, its length and its number of colons. Each is had from the grammar, rule by rule. Assumes nothing.
 use Prim.Native.Nat.{ℕ, _+_, _≤_, _<_}
-use mathlib.Core.Path.{_≡_, refl, ap}
+use mathlib.Core.Path.{_≡_, refl, sym, ap}
 use mathlib.Core.Bool.{Bool, true, false, _&&_, _||_}
 use mathlib.Core.List.{List, [], _∷_}
 use native.Mathlib.Omega.{arith}
 use lib.Dec.{leb}
-use lib.ListN.{length}
+use lib.ListN.{length, getD}
 use borrow.Author.Tests.{leb-true, le-leb}
 use Rattle.text.proofs.Bools.{by-bool, clash, both, and-left, and-right, or-elim, neither}
 use Rattle.number.specs.Hex.{between}
@@ -165,3 +165,24 @@ no-address = refl
 pub address-some : (s : List ℕ) → ipAddress s ≡ true → 0 < length s
 address-some [] h = clash (cc (h, no-address))
 address-some (b ∷ s) h = omega arith
+
+-- `is_ip_address`: what no address begins with
+pub empty-none : (s : List ℕ) → length s ≡ 0 → false ≡ ipAddress s
+empty-none [] h = sym no-address
+empty-none (b ∷ s) h = absurd (omega arith)
+
+first-plain : (s : List ℕ) → (length s ≡ 0 → ⊥) → ipAddress s ≡ true → Plain (getD s 0 0)
+first-plain [] h e = absurd (h refl)
+first-plain (b ∷ s) h e = head (address-bytes (b ∷ s) e)
+  where
+    head : All addressByte (b ∷ s) → Plain b
+    head (All.more k r) = address-plain b k
+
+module _ (s : List ℕ) (h : length s ≡ 0 → ⊥) where
+  pub first-high : 102 < getD s 0 0 → false ≡ ipAddress s
+  first-high k = sym (by-bool (ipAddress s) (λ e. absurd (omega (arith, first-plain s h e .high))) (λ e. e))
+
+  pub first-bracket : getD s 0 0 ≡ 91 → false ≡ ipAddress s
+  first-bracket k = sym (by-bool (ipAddress s) (λ e. absurd (first-plain s h e .open-bracket k)) (λ e. e))
+
+pub ruleset first-laws = (empty-none, first-high, first-bracket)

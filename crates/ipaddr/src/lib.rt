@@ -156,6 +156,17 @@ pub fn is_ipv6_address(s: &[u8]) -> bool
 pub fn is_ip_address(s: &[u8]) -> bool
     ensures { λ r. ⌜ r ≡ ipAddress (now (s .entry)) ⌝ }
 {
+    if s.len() == 0 {
+        return false;
+    }
+    // no address begins so, and many hosts do
+    let first = s[0];
+    if b'f' < first {
+        return false;
+    }
+    if first == b'[' {
+        return false;
+    }
     if is_ipv4_address(s) {
         return true;
     }

@@ -28,7 +28,9 @@ use Rattle.report.proofs.Lines.{without-short, ended-first, open-first, ended-n
 use Rattle.report.proofs.Bounds.{reply-bound}
 use Rattle.report.proofs.Printed.{printed-append, printed-bound}
 use Rattle.answer.specs.Answers.{Answers, withFront}
+use Rattle.answer.specs.Plain.{plain, plainReply}
 use Rattle.answer.specs.declared.Answered.{Answered}
+use Rattle.answer.proofs.Laws.{plain-reply, plain-cut}
 use Rattle.lines.specs.declared.State.{State}
 use Rattle.lines.specs.declared.Said.the-variants.{Filled, Refused}
 use Rattle.lines.specs.declared.Unfed.{Unfed}
@@ -37,7 +39,7 @@ use Rattle.lines.specs.declared.Progress.{Progress}
 use Rattle.lines.specs.declared.Ran.{Ran}
 use Rattle.lines.specs.View.{view, stateOf, memoryAtEnd, memoryAfter}
 use Rattle.lines.specs.Call.{Outcome, prints, refuses, feedOutcome, closeOutcome, accepts, saidOf, roomOf, Does, Feeds, Closes}
-use Rattle.lines.specs.Steps.{Prints, Replies, progress, Passes, Keeps, Ends, Runs, finishText, Finishes}
+use Rattle.lines.specs.Steps.{Prints, Replied, Replies, progress, Passes, Keeps, Ends, Runs, finishText, Finishes}
 
 -- A text at the front of a part of the room, which begins at the place `at` or at the room's end if that comes first.
 module _ (t room part : List ℕ) (at from : ℕ) (f : from ≡ min at (length room)) (size : length part ≡ length (rest from room)) where
@@ -76,20 +78,20 @@ prints-then {s} {t} {l} {m} {r} {at} {next} p q =
           ∙ sym (sets-append l at s t);
     }
 
--- `put_line`
+-- `put_line` and `put_plain`
 printed-one : (l : List ℕ) → printed (l ∷ []) ≡ replyTo l .says
 unfolding printed
 printed-one l = append-nil (replyTo l .says)
 
-pub line-put : (line room part : List ℕ) (at from : ℕ) (a : Answered) → from ≡ min at (length room) → length part ≡ length (rest from room)
-    → Answers (replyTo line) (rest from room) a part → Replies line room at a (putMid from (length room - from) room part)
+pub reply-put : (x : Reply) (room part : List ℕ) (at from : ℕ) (a : Answered) → from ≡ min at (length room) → length part ≡ length (rest from room)
+    → Answers x (rest from room) a part → Replied x room at a (putMid from (length room - from) room part)
 unfolding withFront
-line-put line room part at from a f size e =
+reply-put x room part at from a f size e =
     record {
       put =
           rw (e .len)
-          (in-part (replyTo line .says) room part at from f size
-          (λ h. e .leaves ∙ simp (le-leb (length (replyTo line .says)) (length (rest from room)) h)));
+          (in-part (x .says) room part at from f size
+          (λ h. e .leaves ∙ simp (le-leb (length (x .says)) (length (rest from room)) h)));
       kind = e .kind;
     }
 
@@ -169,8 +171,13 @@ module _ (memory part : List ℕ) (len n : ℕ) (m : length memory ≡ 4098) (h 
       }
 
 -- `end_line`
-replies-alike : {room after : List ℕ} {at : ℕ} {a : Answered} (x y : List ℕ) → replyTo x ≡ replyTo y → Replies x room at a after → Replies y room at a after
-replies-alike x y e q = record { put = rw e at (q .put); kind = q .kind ∙ ap (λ (r : Reply). r .kind) e }
+-- a line is plain with its CR and without
+without-plain : (raw : List ℕ) → plain raw ≡ true → replyTo (withoutCr raw) ≡ plainReply
+unfolding withoutCr
+without-plain raw e =
+    by-bool (endsIn 13 raw)
+    (λ c. simp c (plain-reply (take (length raw - 1) raw) (plain-cut raw (length raw - 1) e)))
+    (λ c. simp c (plain-reply raw e))
 
 pub end-length : (memory : List ℕ) (len : ℕ) (part : List ℕ) (n : ℕ) (memory′ : List ℕ) → Keeps memory len part n memory′ → length memory ≡ 4098
     → n ≡ length (take n memory′)
@@ -181,14 +188,15 @@ module _ (memory : List ℕ) (len : ℕ) (part room : List ℕ) (at : ℕ) (a : 
   pub end-whole : len ≡ 0 → Replies (withoutCr part) room at a room′ → Ends memory len part room at a memory room′
   end-whole e q = rw e (record { replies = q; stored = refl })
 
+  pub end-plain : len ≡ 0 → (b : Bool) → b ≡ plain part → b ≡ true → Replied plainReply room at a room′ → Ends memory len part room at a memory room′
+  end-plain e b eb h q = end-whole e (rw (← without-plain part (sym eb ∙ h)) at q)
+
   module _ (n : ℕ) (memory′ : List ℕ) (k : Keeps memory len part n memory′) where
     pub end-grown : (len ≡ 0 → ⊥) → Replies (withoutCr (take n memory′)) room at a room′ → Ends memory len part room at a memory′ room′
     end-grown e q =
         let raw = take len memory ++ part in
         record {
-          replies =
-              replies-alike (withoutCr (take n memory′)) (withoutCr raw)
-              (ended-alike (take n memory′) raw (ap (take 4098) (k .begun) ∙ first-alike raw)) q;
+          replies = rw (ended-alike (take n memory′) raw (ap (take 4098) (k .begun) ∙ first-alike raw)) at q;
           stored = k .stored ∙ sym (simp (ne-eqb len 0 e));
         }
 
@@ -206,26 +214,28 @@ passes-then {a} {b} {p = p} x y =
     }
 
 -- `run`: the lines `done` are answered, and those that are to come, the open line and the memory are settled by what is left of the fragment
-pub record Run (memory₀ : List ℕ) (begun : ℕ) (s room₀ : List ℕ) (t : Totals) (memory room : List ℕ) (past : Progress) (len i e : ℕ) : Type 0 where
+pub record Run (memory₀ : List ℕ) (begun : ℕ) (s room₀ : List ℕ) (t : Totals) (memory room : List ℕ) (past : Progress) (len i : ℕ) : Type 0 where
+  pub text : length s ≤ 4294967295
+  pub front : begun ≤ 4098
   pub size : length memory ≡ 4098
   pub short : len ≤ 4098
   pub within : i ≤ length s
-  pub next : e ≡ i + before 10 (drop i s)
   pub done : List (List ℕ)
   pub passes : Passes done room₀ (progress 0 t) past room
   pub lines : done ++ endedFrom (take len memory) (drop i s) ≡ endedFrom (take begun memory₀) s
   pub last : openFrom (take len memory) (drop i s) ≡ openFrom (take begun memory₀) s
   pub stored : memoryAfter len memory (drop i s) ≡ memoryAfter begun memory₀ s
 
-pub run-start : (memory : List ℕ) (begun : ℕ) (s room : List ℕ) (t : Totals) (e : ℕ) → length memory ≡ 4098 → begun ≤ 4098 → e ≡ before 10 s
-    → Run memory begun s room t memory room (progress 0 t) begun 0 e
+pub run-start : (memory : List ℕ) (begun : ℕ) (s room : List ℕ) (t : Totals) → length memory ≡ 4098 → begun ≤ 4098 → length s ≤ 4294967295
+    → Run memory begun s room t memory room (progress 0 t) begun 0
 unfolding printed countedAll
-run-start memory begun s room t e m h f =
+run-start memory begun s room t m h l =
     record {
+      text = l;
+      front = h;
       size = m;
       short = h;
       within = omega arith;
-      next = omega arith;
       done = [];
       passes = record { put = record { place = refl; size = refl; bytes = λ k. refl }; totals = refl };
       lines = refl;
@@ -250,67 +260,72 @@ module _ (len : ℕ) (memory s : List ℕ) (n : ℕ) (e : n ≡ before 10 s) whe
     unfolding memoryAfter
     stored-none = rw (← e, le-ltb n (length s) h) refl
 
-module _ {memory₀ : List ℕ} {begun : ℕ} {s room₀ : List ℕ} {t : Totals} {memory room : List ℕ} {at : ℕ} {totals : Totals} {len i e : ℕ}
-    (v : Run memory₀ begun s room₀ t memory room (progress at totals) len i e) where
-  here : e - i ≡ before 10 (drop i s)
-  here = omega (arith, v .next)
-
+module _ {memory₀ : List ℕ} {begun : ℕ} {s room₀ : List ℕ} {t : Totals} {memory room : List ℕ} {at : ℕ} {totals : Totals} {len i : ℕ}
+    (v : Run memory₀ begun s room₀ t memory room (progress at totals) len i) where
   left : length (drop i s) ≡ length s - i
   left = length-drop i s
 
   -- what was printed is no longer than all that is to print
-  run-most : length s ≤ 4294967295 → begun ≤ 4098 → at + 6 * (length (take (e - i) (drop i s)) + 4098) ≤ 2 ^ 46
-  run-most h b =
+  run-most : at + 6 * (length (drop i s) + 4098) ≤ 2 ^ 46
+  run-most =
       let n : length (printed (v .done)) ≤ length (printed (endedFrom (take begun memory₀) s)) =
       omega (arith, ap (λ (ls : List (List ℕ)). length (printed ls)) (v .lines), ap length (printed-append (v .done) (endedFrom (take len memory) (drop i s))), length-append (printed (v .done)) (printed (endedFrom (take len memory) (drop i s)))) in
-      omega (arith, v .passes .put .place, printed-bound (take begun memory₀) s, length-take begun memory₀, length-take (e - i) (drop i s), left)
+      omega (arith, v .text, v .front, v .passes .put .place, printed-bound (take begun memory₀) s, length-take begun memory₀, left)
 
-  pub run-fits : length s ≤ 4294967295 → begun ≤ 4098 → (memory′ room′ : List ℕ) (a : Answered)
-      → Ends memory len (take (e - i) (drop i s)) room at a memory′ room′ → Fits w64 (at + a .len)
-  run-fits h b memory′ room′ a w =
-      let raw = take len memory ++ take (e - i) (drop i s) in
+  pub run-fits : (n : ℕ) (memory′ room′ : List ℕ) (a : Answered) → Ends memory len (take n (drop i s)) room at a memory′ room′ → Fits w64 (at + a .len)
+  run-fits n memory′ room′ a w =
+      let raw = take len memory ++ take n (drop i s) in
       record {
         fits =
             omega
-            (arith, run-most h b, w .replies .put .place, reply-bound (withoutCr raw), without-short raw, length-append (take len memory) (take (e - i) (drop i s)), length-take len memory, v .size);
+            (arith, run-most, w .replies .put .place, reply-bound (withoutCr raw), without-short raw, length-append (take len memory) (take n (drop i s)), length-take n (drop i s), length-take len memory, v .size);
       }
 
-  module _ (h : e < length s) where
-    inside : e - i < length (drop i s)
-    inside = omega (arith, v .next, left)
+-- the next LF stands at i + r, or there is none
+module _ {memory₀ : List ℕ} {begun : ℕ} {s room₀ : List ℕ} {t : Totals} {memory room : List ℕ} {at : ℕ} {totals : Totals} {len i : ℕ}
+    (v : Run memory₀ begun s room₀ t memory room (progress at totals) len i) (r : ℕ) (f : r ≡ before 10 (rest i s)) where
+  next : r ≡ before 10 (drop i s)
+  next = f ∙ ap (before 10) (rest-is i s)
 
-    behind : drop (suc (e - i)) (drop i s) ≡ drop (e + 1) s
-    behind = drop-drop (suc (e - i)) i s ∙ ap (λ (k : ℕ). drop k s) (let k : i + suc (e - i) ≡ e + 1 = omega (arith, v .next) in k)
+  here : i + r - i ≡ before 10 (drop i s)
+  here = omega (arith, next)
 
-    pub find-fits : (from r : ℕ) → length s ≤ 4294967295 → r ≡ before 10 (rest from s) → Fits w64 (e + 1 + r)
-    find-fits from r l f =
-        record { fits = omega (arith, before-le 10 (rest from s), ap length (rest-is from s), length-drop from s) }
+  pub find-fits : Fits w64 (i + r)
+  find-fits = record { fits = omega (arith, v .text, next, before-le 10 (drop i s), left v, v .within) }
 
-    pub run-turn : (memory′ room′ : List ℕ) (a : Answered) (totals′ : Totals) (r : ℕ) → length memory′ ≡ length memory
-        → Ends memory len (take (e - i) (drop i s)) room at a memory′ room′ → totals′ ≡ counted totals (a .kind) → r ≡ before 10 (rest (e + 1) s)
-        → Run memory₀ begun s room₀ t memory′ room′ (progress (at + a .len) totals′) 0 (e + 1) (e + 1 + r)
-    run-turn memory′ room′ a totals′ r m w c f =
+  module _ (h : i + r < length s) where
+    inside : i + r - i < length (drop i s)
+    inside = omega (arith, next, left v)
+
+    behind : drop (suc (i + r - i)) (drop i s) ≡ drop (i + r + 1) s
+    behind = drop-drop (suc (i + r - i)) i s ∙ ap (λ (k : ℕ). drop k s) (let k : i + suc (i + r - i) ≡ i + r + 1 = omega (arith, next) in k)
+
+    pub run-turn : (memory′ room′ : List ℕ) (a : Answered) (totals′ : Totals) → length memory′ ≡ length memory
+        → Ends memory len (take (i + r - i) (drop i s)) room at a memory′ room′ → totals′ ≡ counted totals (a .kind)
+        → Run memory₀ begun s room₀ t memory′ room′ (progress (at + a .len) totals′) 0 (i + r + 1)
+    run-turn memory′ room′ a totals′ m w c =
         let q = take len memory in
-        let line = withoutCr (q ++ take (e - i) (drop i s)) in
-        let first : endedFrom q (drop i s) ≡ line ∷ endedFrom [] (drop (e + 1) s) =
+        let line = withoutCr (q ++ take (i + r - i) (drop i s)) in
+        let first : endedFrom q (drop i s) ≡ line ∷ endedFrom [] (drop (i + r + 1) s) =
         rw (← behind, here) (ended-first q (drop i s) (omega (arith, inside, here))) in
-        let second : openFrom q (drop i s) ≡ openFrom [] (drop (e + 1) s) =
+        let second : openFrom q (drop i s) ≡ openFrom [] (drop (i + r + 1) s) =
         rw (← behind, here) (open-first q (drop i s) (omega (arith, inside, here))) in
         record {
+          text = v .text;
+          front = v .front;
           size = m ∙ v .size;
           short = omega arith;
           within = omega arith;
-          next = omega (arith, ap (before 10) (rest-is (e + 1) s));
           done = v .done ++ (line ∷ []);
           passes = passes-then (v .passes) (replies-pass totals totals′ (w .replies) c);
-          lines = append-snoc (v .done) line (endedFrom [] (drop (e + 1) s)) ∙ ap (λ (ls : List (List ℕ)). v .done ++ ls) (sym first) ∙ v .lines;
+          lines = append-snoc (v .done) line (endedFrom [] (drop (i + r + 1) s)) ∙ ap (λ (ls : List (List ℕ)). v .done ++ ls) (sym first) ∙ v .lines;
           last = sym second ∙ v .last;
-          stored = ap (memoryAfter 0 memory′) (sym behind) ∙ stored-first len memory (drop i s) (e - i) here inside memory′ (w .stored) ∙ v .stored;
+          stored = ap (memoryAfter 0 memory′) (sym behind) ∙ stored-first len memory (drop i s) (i + r - i) here inside memory′ (w .stored) ∙ v .stored;
         }
 
-  module _ (h : length s ≤ e) where
+  module _ (h : length s ≤ i + r) where
     none : length (drop i s) ≤ before 10 (drop i s)
-    none = omega (arith, v .next, left, v .within)
+    none = omega (arith, next, left v, v .within)
 
     pub run-end : (n : ℕ) (memory′ : List ℕ) → Keeps memory len (rest i s) n memory′ → Runs memory₀ begun s room₀ t (record { len = n; past = progress at totals }) memory′ room
     run-end n memory′ k =
@@ -487,7 +502,7 @@ module _ (state : State) (memory room : List ℕ) where
         does-print close-prints (omega (arith, close-length)) (x .put) (cc (x .totals)) (cc (x .totals))
 
 pub ruleset laws = (
-  line-put,
+  reply-put,
   cut-some,
   cut-length,
   plain-length,
@@ -497,6 +512,7 @@ pub ruleset laws = (
   keep-asks,
   keep-done,
   end-whole,
+  end-plain,
   end-length,
   end-grown,
   run-start,

@@ -6,7 +6,7 @@ use lib.ListN.{length, take}
 use lib.Seq.{sets}
 use Rattle.report.specs.Lines.{withoutCr, endedFrom, openFrom, lastLine}
 use Rattle.report.specs.Report.{printed, totalsText}
-use Rattle.report.specs.Reply.{replyTo}
+use Rattle.report.specs.Reply.{Reply, replyTo}
 use Rattle.report.specs.Reader.{countedAll}
 use Rattle.answer.specs.declared.Answered.{Answered}
 use Rattle.report.specs.declared.Totals.{Totals}
@@ -23,10 +23,14 @@ pub record Prints (t room : List ℕ) (at next : ℕ) (after : List ℕ) : Type 
 abbrev pub progress : ℕ → Totals → Progress
 progress at t = record { at = at; totals = t }
 
+-- a reply is printed from the place `at` on
+pub record Replied (x : Reply) (room : List ℕ) (at : ℕ) (a : Answered) (after : List ℕ) : Type 0 where
+  pub put : Prints (x .says) room at (at + a .len) after
+  pub kind : a .kind ≡ x .kind
+
 -- a line is answered from the place `at` on
-pub record Replies (line room : List ℕ) (at : ℕ) (a : Answered) (after : List ℕ) : Type 0 where
-  pub put : Prints (replyTo line .says) room at (at + a .len) after
-  pub kind : a .kind ≡ replyTo line .kind
+abbrev pub Replies : List ℕ → List ℕ → ℕ → Answered → List ℕ → Type 0
+Replies line = Replied (replyTo line)
 
 -- lines are answered, one after another, and counted
 pub record Passes (ls : List (List ℕ)) (room : List ℕ) (p r : Progress) (after : List ℕ) : Type 0 where

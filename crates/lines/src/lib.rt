@@ -8,9 +8,10 @@ ghost use lib.ListN.{length};
 ghost use Rattle.report.specs.Lines.{withoutCr, endedFrom};
 ghost use Rattle.report.specs.Report.{printed, totalsText};
 ghost use Rattle.report.specs.Reader.{readerOf};
+ghost use Rattle.answer.specs.Plain.{plainReply};
 ghost use Rattle.lines.specs.View.{stateOf};
 ghost use Rattle.lines.specs.Call.{Feeds, Closes};
-ghost use Rattle.lines.specs.Steps.{Prints, Replies, Keeps, Ends, Runs, finishText, Finishes};
+ghost use Rattle.lines.specs.Steps.{Prints, Replied, Replies, Keeps, Ends, Runs, finishText, Finishes};
 use answer::Answered;
 use report::Totals;
 
@@ -72,6 +73,14 @@ fn put_line(line: &[u8], room: &mut [u8], at: usize) -> Answered
     answer::answer_line(line, &mut room[from..])
 }
 
+// The same of a line that is seen at once to be no clock line.
+fn put_plain(room: &mut [u8], at: usize) -> Answered
+    ensures { λ r. ⌜ Replied plainReply (now (room .entry)) at r (now (room .exit)) ⌝ }
+{
+    let from = least(at, room.len());
+    answer::answer_plain(&mut room[from..])
+}
+
 // How long a line is that an LF ended, without one CR before that.
 fn length_without_cr(raw: &[u8]) -> usize
     ensures { λ r. ⌜ r ≡ length (withoutCr (now (raw .entry))) ⌝ }
@@ -100,12 +109,15 @@ fn keep(memory: &mut [u8], len: usize, part: &[u8]) -> usize
     room::put_bytes(memory, len, &part[..n])
 }
 
-// The open line ends with a part. Where all of it lies in the part, it is answered where it lies.
+// The open line ends with a part. Where all of it lies in the part, it is answered where it lies; most lines are plain, and cost no call then.
 fn end_line(memory: &mut [u8], len: usize, part: &[u8], room: &mut [u8], at: usize) -> Answered
     requires { ⌜ (length (now memory) ≡ 4098) × (len ≤ 4098) ⌝ }
     ensures { λ r. ⌜ Ends (now (memory .entry)) len (now (part .entry)) (now (room .entry)) at r (now (memory .exit)) (now (room .exit)) ⌝ }
 {
     if len == 0 {
+        if answer::is_plain(part) {
+            return put_plain(room, at);
+        }
         return put_ended(part, room, at);
     }
     let n = keep(memory, len, part);
@@ -121,15 +133,17 @@ fn run(memory: &mut [u8], begun: usize, text: &[u8], room: &mut [u8], before: To
     let mut at: usize = 0;
     let mut len = begun;
     let mut i = 0;
-    let mut e = text::find(text, b'\n');
-    while e < text.len() {
+    loop {
+        let e = i + text::find_far(&text[i..], b'\n');
+        if text.len() <= e {
+            break;
+        }
         let answered = end_line(memory, len, &text[i..e], room, at);
         let kind = answered.kind;
         at += answered.len;
         totals = tally::count(totals, kind);
         len = 0;
         i = e + 1;
-        e = i + text::find(&text[i..], b'\n');
     }
     let n = keep(memory, len, &text[i..]);
     Ran {

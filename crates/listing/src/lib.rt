@@ -31,17 +31,17 @@ fn open_line() -> [u8; 4098]
     [0; 4098]
 }
 
-fn input() -> [u8; 49152]
-    ensures { λ r. ⌜ 49152 ≡ length r ⌝ }
+fn input() -> [u8; 8192]
+    ensures { λ r. ⌜ 8192 ≡ length r ⌝ }
 {
-    [0; 49152]
+    [0; 8192]
 }
 
-// Room for whatever a fragment of 49,152 bytes prints, so that nothing is measured: six bytes for each of its bytes and of the open line's 4,098.
-fn output() -> [u8; 319500]
-    ensures { λ r. ⌜ 319500 ≡ length r ⌝ }
+// Room for whatever a fragment of 8,192 bytes prints, so that nothing is measured: six bytes for each of its bytes and of the open line's 4,098.
+fn output() -> [u8; 73740]
+    ensures { λ r. ⌜ 73740 ≡ length r ⌝ }
 {
-    [0; 319500]
+    [0; 73740]
 }
 
 fn write_said(room: &[u8], said: Said) -> bool {

@@ -1,11 +1,13 @@
 -- One law for each way out of the readers of an id, a stream, an extension and the whole, its premises as the code's places give them.
 -- Assumes nothing.
 use Prim.Native.Nat.{ℕ, _+_, _-_, _≤_, _<_}
-use mathlib.Core.Path.{_≡_, sym, _∙_}
+use mathlib.Core.Path.{_≡_, sym, ap, _∙_}
 use mathlib.Core.List.{List}
 use mathlib.Core.Bool.{Bool, true, false}
 use native.Mathlib.Omega.{arith}
-use lib.ListN.{length, take}
+use lib.Dec.{ltb}
+use lib.ListN.{length, take, drop, length-take, length-drop}
+use lib.Seq.{drop-drop}
 use mir.Val.{Fits}
 use mir.Syntax.{w64}
 use borrow.Author.Tests.{eq-eqb, ne-eqb, lt-ltb, le-ltb}
@@ -38,7 +40,7 @@ use Rattle.clock.specs.declared.MediaClockSourceRead.{MediaClockSourceRead}
 use Rattle.clock.specs.declared.MediaClockSourceRead.the-variants as source
 use Rattle.meaning.specs.Answer.{Answer, accepted, refused, extensionOf, guarded}
 use Rattle.meaning.specs.MediaClock.{brokenNumber, directOf, streamOf, mediaClockOf, tagOf, idOf, taggedOf, sourceOf, mediaClockSourceOf, asMediaClockSourceRead, readMediaClockSource, withClock}
-use Rattle.mediaclk.specs.Answers.{directAnswer, idAnswer, streamAnswer, extensionAnswer, mediaClockAnswer}
+use Rattle.mediaclk.specs.Answers.{directAnswer, idAnswer, streamAnswer, extensionAnswer, mediaClockAnswer, Fronts}
 use Rattle.mediaclk.specs.declared.direct.DirectRead.{DirectRead}
 use Rattle.mediaclk.specs.declared.direct.DirectRead.the-variants as direct
 use Rattle.mediaclk.specs.declared.id.IdRead.{IdRead}
@@ -49,6 +51,8 @@ use Rattle.mediaclk.specs.declared.extension.ExtensionRead.{ExtensionRea
 use Rattle.mediaclk.specs.declared.extension.ExtensionRead.the-variants as extension
 use Rattle.mediaclk.specs.declared.MediaClockRead.{MediaClockRead}
 use Rattle.mediaclk.specs.declared.MediaClockRead.the-variants as media
+use Rattle.mediaclk.specs.declared.FrontRead.{FrontRead}
+use Rattle.mediaclk.specs.declared.FrontRead.the-variants as front
 use Rattle.mediaclk.proofs.DirectLaws.{room-behind}
 
 -- `read_tag` and `read_id`
@@ -162,40 +166,73 @@ module _ (i : OptId) (a : Answer MediaClock) (x : MediaClockRead) (ex : mediaClo
   pub behind-refused : (r : Refusal) → x ≡ media.Refused r → source.Refused r ≡ asMediaClockSourceRead (withClock i a)
   behind-refused r e = simp (← ex, e)
 
--- `read_tagged`
-module _ (at : ℕ) (s : List ℕ) (i : ℕ) (ei : i ≡ before 32 s) where
-  pub tagged-no-space : (f : Refusal) → f ≡ refusal 12 (at + length s) 0 → length s ≤ i
-      → source.Refused f ≡ asMediaClockSourceRead (taggedOf at s)
-  unfolding taggedOf
-  tagged-no-space f ef h = simp (← ei, le-ltb _ _ h, ef)
+-- `read_tagged`: the cut behind `id=`
+module _ (s : List ℕ) (t : starts (word "id=") s ≡ true) where
+  pub id-long : 3 ≤ length s
+  id-long = starts-long (word "id=") s t
 
-  pub tagged-room : at + length s ≤ 1024 → at + length (take i s) ≤ 1024
-  tagged-room h = omega (arith, cut-length 32 s i ei, before-le 32 s)
+  module _ (i : ℕ) (ei : i ≡ before 32 (rest 3 s)) where
+    cut : before 32 (drop 3 s) ≡ i
+    cut = sym (ei ∙ ap (before 32) (rest-is 3 s))
 
-  module _ (h : i < length s) (x : IdRead) (ex : idAnswer x ≡ idOf at (take i s)) where
-    pub tagged-no-id : (r : Refusal) → x ≡ id.Refused r → source.Refused r ≡ asMediaClockSourceRead (taggedOf at s)
-    unfolding taggedOf
-    tagged-no-id r e = simp (← ei, lt-ltb _ _ h, ← ex, e)
+    left : length (drop 3 s) ≡ length s - 3
+    left = length-drop 3 s
 
-    pub tagged-clock : (d : MediaClockId) → x ≡ id.Accepted d → (r : MediaClockSourceRead)
-        → r ≡ asMediaClockSourceRead (withClock (SomeId d) (mediaClockOf (at + (i + 1)) (rest (i + 1) s)))
-        → r ≡ asMediaClockSourceRead (taggedOf at s)
-    unfolding taggedOf
-    tagged-clock d e r er = simp (← ei, lt-ltb _ _ h, ← ex, e, rw rest-is at er)
+    pub tagged-fits : length s ≤ 1024 → Fits w64 (i + 3)
+    tagged-fits h = record { fits = omega (arith, cut, left, before-le 32 (drop 3 s)) }
+
+    pub tagged-no-space : length s ≤ i + 3 → (f : Refusal) → f ≡ refusal 12 (length s) 0 → Fronts s (front.Refused f)
+    unfolding sourceOf taggedOf
+    tagged-no-space h f ef =
+        let k : 3 + length (drop 3 s) ≡ length s = omega (arith, left, id-long) in
+        record { source = simp (t, cut, le-ltb i (length (drop 3 s)) (omega (arith, left)), k, ef); within = omega arith }
+
+    pub tagged-room : length s ≤ 1024 → i + 3 < length s → 3 + length (take (i + 3 - 3) (drop 3 s)) ≤ 1024
+    tagged-room h k = omega (arith, length-take (i + 3 - 3) (drop 3 s))
+
+    module _ (h : i + 3 < length s) (x : IdRead) (ex : idAnswer x ≡ idOf 3 (take (i + 3 - 3) (drop 3 s))) where
+      read-is : idAnswer x ≡ idOf 3 (take i (drop 3 s))
+      read-is = let e : i + 3 - 3 ≡ i = omega arith in rw e at ex
+
+      here : ltb i (length (drop 3 s)) ≡ true
+      here = lt-ltb i (length (drop 3 s)) (omega (arith, left))
+
+      pub tagged-no-id : (r : Refusal) → x ≡ id.Refused r → Fronts s (front.Refused r)
+      unfolding sourceOf taggedOf
+      tagged-no-id r e = record { source = simp (t, cut, here, ← read-is, e); within = omega arith }
+
+      pub tagged-id : (d : MediaClockId) → x ≡ id.Accepted d → Fronts s (front.Accepted (SomeId d) (i + 3 + 1))
+      unfolding sourceOf taggedOf
+      tagged-id d e =
+          let k : i + 3 + 1 ≡ 3 + (i + 1) = omega arith in
+          record { source = simp (t, cut, here, ← read-is, e, drop-drop (i + 1) 3 s) (simp k); within = omega arith }
+
+-- `read_front`
+module _ (s : List ℕ) (t : Bool) (et : t ≡ starts (word "id=") s) where
+  pub front-tagged : t ≡ true → starts (word "id=") s ≡ true
+  front-tagged e = sym et ∙ e
+
+  pub front-bare : t ≡ false → Fronts s (front.Accepted NoId 0)
+  unfolding sourceOf
+  front-bare e = record { source = simp (← et, e); within = omega arith }
 
 -- `read_source`
-module _ (s : List ℕ) (t : Bool) (et : t ≡ starts (word "id=") s) where
-  pub id-long : t ≡ true → 3 ≤ length s
-  id-long e = starts-long (word "id=") s (sym et ∙ e)
+module _ (s : List ℕ) (x : FrontRead) (p : Fronts s x) where
+  module _ (i : OptId) (start : ℕ) (e : x ≡ front.Accepted i start) where
+    pub clock-start : start ≤ length s
+    clock-start = rw e at (p .within)
 
-  module _ (r : MediaClockSourceRead) where
-    pub source-tagged : t ≡ true → r ≡ asMediaClockSourceRead (taggedOf 3 (rest 3 s)) → r ≡ asMediaClockSourceRead (sourceOf s)
-    unfolding sourceOf
-    source-tagged e er = simp (← et, e, rw rest-is at er)
+    pub clock-room : length s ≤ 1024 → start + length (rest start s) ≤ 1024
+    clock-room h = omega (arith, clock-start, length-take (length s - start) (drop start s))
 
-    pub source-bare : t ≡ false → r ≡ asMediaClockSourceRead (withClock NoId (mediaClockOf 0 s)) → r ≡ asMediaClockSourceRead (sourceOf s)
-    unfolding sourceOf
-    source-bare e er = simp (← et, e, er)
+    pub source-clock : (r : MediaClockSourceRead) → r ≡ asMediaClockSourceRead (withClock i (mediaClockOf start (rest start s)))
+        → r ≡ asMediaClockSourceRead (sourceOf s)
+    source-clock r er =
+        let q : withClock i (mediaClockOf start (drop start s)) ≡ sourceOf s = simp e at (p .source) in
+        simp (← q) (rw rest-is at er)
+
+  pub source-refused : (r : Refusal) → x ≡ front.Refused r → source.Refused r ≡ asMediaClockSourceRead (sourceOf s)
+  source-refused r e = ap asMediaClockSourceRead (simp e at (p .source))
 
 -- `read_media_clock_source`
 module _ (s : List ℕ) where
@@ -239,13 +276,18 @@ pub ruleset laws = (
   clock-no-extension,
   behind-clock,
   behind-refused,
+  id-long,
+  tagged-fits,
   tagged-no-space,
   tagged-room,
   tagged-no-id,
-  tagged-clock,
-  id-long,
-  source-tagged,
-  source-bare,
+  tagged-id,
+  front-tagged,
+  front-bare,
+  clock-start,
+  clock-room,
+  source-clock,
+  source-refused,
   whole-long,
   whole-ill,
   whole-well,

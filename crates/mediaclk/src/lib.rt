@@ -5,12 +5,12 @@ mod id;
 mod stream;
 
 ghost use mathlib.Core.Path.{_≡_};
-ghost use mathlib.Core.Bool.{false};
+ghost use mathlib.Core.Bool.{true, false};
 ghost use Prim.Native.Nat.{_+_, _≤_};
 ghost use lib.ListN.{length};
 ghost use Rattle.text.specs.Word.{word, same, starts};
-ghost use Rattle.meaning.specs.MediaClock.{mediaClockOf, withClock, taggedOf, sourceOf, asMediaClockSourceRead, readMediaClockSource};
-ghost use Rattle.mediaclk.specs.Answers.{mediaClockAnswer};
+ghost use Rattle.meaning.specs.MediaClock.{mediaClockOf, withClock, sourceOf, asMediaClockSourceRead, readMediaClockSource};
+ghost use Rattle.mediaclk.specs.Answers.{mediaClockAnswer, Fronts};
 use crate::direct::DirectRead;
 use crate::extension::ExtensionRead;
 use crate::id::IdRead;
@@ -23,6 +23,12 @@ use clock::Refusal;
 
 enum MediaClockRead {
     Accepted(MediaClock),
+    Refused(Refusal),
+}
+
+// What stands before the clock, and the place where the clock starts.
+enum FrontRead {
+    Accepted(OptId, usize),
     Refused(Refusal),
 }
 
@@ -77,35 +83,46 @@ fn read_behind_id(p: &[u8], at: usize, id: OptId) -> MediaClockSourceRead
     }
 }
 
-// Behind `id=`: the id up to the first space, then the clock.
-fn read_tagged(p: &[u8], at: usize) -> MediaClockSourceRead
-    requires { ⌜ at + length (now p) ≤ 1024 ⌝ }
-    ensures { λ r. ⌜ r ≡ asMediaClockSourceRead (taggedOf at (now (p .entry))) ⌝ }
+// Behind `id=`: the id up to the first space.
+fn read_tagged(v: &[u8]) -> FrontRead
+    requires { ⌜ length (now v) ≤ 1024 ⌝ }
+    requires { ⌜ starts (word "id=") (now v) ≡ true ⌝ }
+    ensures { λ r. ⌜ Fronts (now (v .entry)) r ⌝ }
 {
-    let n = p.len();
-    let i = text::find(p, b' ');
-    if n <= i {
-        let end = at + n;
-        return MediaClockSourceRead::Refused(Refusal::new(12, end, 0));
+    let n = v.len();
+    let i = text::find(&v[3..], b' ');
+    let end = i + 3;
+    if n <= end {
+        return FrontRead::Refused(Refusal::new(12, n, 0));
     }
-    match id::read_id(&p[..i], at) {
+    match id::read_id(&v[3..end], 3) {
         IdRead::Accepted(id) => {
-            let d = i + 1;
-            let start = at + d;
-            read_behind_id(&p[d..], start, OptId::SomeId(id))
+            let start = end + 1;
+            FrontRead::Accepted(OptId::SomeId(id), start)
         }
-        IdRead::Refused(r) => MediaClockSourceRead::Refused(r),
+        IdRead::Refused(r) => FrontRead::Refused(r),
     }
 }
 
+fn read_front(v: &[u8]) -> FrontRead
+    requires { ⌜ length (now v) ≤ 1024 ⌝ }
+    ensures { λ r. ⌜ Fronts (now (v .entry)) r ⌝ }
+{
+    if text::has_prefix(v, b"id=") {
+        return read_tagged(v);
+    }
+    FrontRead::Accepted(OptId::NoId, 0)
+}
+
+// The id first, then the clock: it is read in one place, with an id and without.
 fn read_source(v: &[u8]) -> MediaClockSourceRead
     requires { ⌜ length (now v) ≤ 1024 ⌝ }
     ensures { λ r. ⌜ r ≡ asMediaClockSourceRead (sourceOf (now (v .entry))) ⌝ }
 {
-    if text::has_prefix(v, b"id=") {
-        return read_tagged(&v[3..], 3);
+    match read_front(v) {
+        FrontRead::Accepted(id, start) => read_behind_id(&v[start..], start, id),
+        FrontRead::Refused(r) => MediaClockSourceRead::Refused(r),
     }
-    read_behind_id(v, 0, OptId::NoId)
 }
 
 // A value over 1,024 bytes is refused, then one that is not well-formed UTF-8.

@@ -19,6 +19,8 @@ use Rattle.clock.specs.declared.MediaClockSourceRead.{MediaClockSourceRead}
 use Rattle.clock.specs.declared.MediaClockSourceRead.the-variants as media
 use Rattle.clock.specs.declared.Wrote.{Wrote}
 use Rattle.clock.specs.declared.Wrote.the-variants as wrote
+use Rattle.clock.specs.declared.WriteRefusal.{WriteRefusal}
+use Rattle.clock.specs.declared.WriteRefusal.the-variants as refused
 use Rattle.meaning.specs.ReferenceClock.{readReferenceClock}
 use Rattle.meaning.specs.MediaClock.{readMediaClockSource}
 use Rattle.meaning.specs.Text.{referenceClockText, mediaClockSourceText}
@@ -32,10 +34,10 @@ use Rattle.report.specs.Reply.{noReply}
 use Rattle.report.proofs.Bounds.{Writable, ref-writable, media-writable}
 use Rattle.answer.specs.declared.Answered.{Answered}
 use Rattle.answer.specs.Answers.{Answers}
-use Rattle.answer.specs.Parts.{textLength}
 use Rattle.answer.proofs.Laws.{front-fits, front-not}
 use Rattle.notes.specs.Notation.{referenceClockNote, mediaClockSourceNote}
 use Rattle.notation.specs.Line.{okLine, tsRefclkLine, mediaclkLine}
+use Rattle.notation.specs.Parts.{textLength}
 
 hex-length : (s : List ℕ) → length (hexBytes s) ≡ 2 * length s
 unfolding hexBytes
@@ -72,6 +74,25 @@ module _ (note text room : List ℕ) where
             put-front (put-then (put-then (put-then (put-then p q) r) s) t) fits
             ∙ sym (front-fits (okLine note text .says) room fits);
       }
+
+-- `text_length`
+module _ (w : Wrote) where
+  pub length-written : (n : ℕ) → w ≡ wrote.Length n → n ≡ textLength w
+  unfolding textLength
+  length-written n e = simp e
+
+  module _ (why : WriteRefusal) (e : w ≡ wrote.Refused why) where
+    pub length-room : (n : ℕ) → why ≡ refused.Room n → n ≡ textLength w
+    unfolding textLength
+    length-room n f = simp (e, f)
+
+    pub length-value : (r : Refusal) → why ≡ refused.Value r → 0 ≡ textLength w
+    unfolding textLength
+    length-value r f = simp (e, f)
+
+    pub length-outside : why ≡ refused.Outside → 0 ≡ textLength w
+    unfolding textLength
+    length-outside f = simp (e, f)
 
 -- what stands at the front of an array, handed out as a part
 at-front : (t l : List ℕ) {n : ℕ} {array part : Lent} → n ≡ length t → array .now ≡ t ++ drop (length t) l → PartAt array (place 0 n) part → part .now ≡ t
@@ -158,4 +179,4 @@ module _ (v : List ℕ) (a : MediaClockSourceRead) (is : a ≡ readMediaClockSou
     unfolding mediaclkLine
     media-no r e p = rw (← is, e) p
 
-pub ruleset laws = (ok-short, ok-put, clock-note, clock-text, clock-said, source-note, source-text, source-said, ref-read, ref-ok, ref-no, media-read, media-ok, media-no)
+pub ruleset laws = (ok-short, ok-put, length-written, length-room, length-value, length-outside, clock-note, clock-text, clock-said, source-note, source-text, source-said, ref-read, ref-ok, ref-no, media-read, media-ok, media-no)

@@ -10,11 +10,14 @@ ghost use Rattle.meaning.specs.Text.{referenceClockText, mediaClockSourceText};
 ghost use Rattle.answer.specs.Answers.{Answers};
 ghost use Rattle.notes.specs.Notation.{referenceClockNote, mediaClockSourceNote};
 ghost use Rattle.notation.specs.Line.{okLine, tsRefclkLine, mediaclkLine};
+ghost use Rattle.notation.specs.Parts.{textLength};
 use answer::Answered;
 use clock::MediaClockSource;
 use clock::MediaClockSourceRead;
 use clock::ReferenceClock;
 use clock::ReferenceClockRead;
+use clock::WriteRefusal;
+use clock::Wrote;
 use report::Kind;
 use text::Place;
 
@@ -42,6 +45,21 @@ fn answer_ok(note: &[u8], text: &[u8], room: &mut [u8]) -> Answered
     }
 }
 
+// How long the text is that was written, or that there was no room for. A record just read is not refused for its value or its places, so 0 is
+// never given for these.
+fn text_length(wrote: Wrote) -> usize
+    ensures { λ r. ⌜ r ≡ textLength wrote ⌝ }
+{
+    match wrote {
+        Wrote::Length(n) => n,
+        Wrote::Refused(why) => match why {
+            WriteRefusal::Room(n) => n,
+            WriteRefusal::Value(_) => 0,
+            WriteRefusal::Outside => 0,
+        },
+    }
+}
+
 // Of a record just read: an array of 1,026 bytes is long enough for its text.
 fn answer_clock(clock: ReferenceClock, value: &[u8], room: &mut [u8]) -> Answered
     requires { ⌜ ref.Accepted clock ≡ readReferenceClock (now value) ⌝ }
@@ -52,7 +70,7 @@ fn answer_clock(clock: ReferenceClock, value: &[u8], room: &mut [u8]) -> Answere
     let note = text::part(&notes, Place { start: 0, len });
     let mut texts = [0u8; 1026];
     let wrote = writing::write_reference_clock(clock, value, &mut texts);
-    let len = answer::text_length(wrote);
+    let len = text_length(wrote);
     let text = text::part(&texts, Place { start: 0, len });
     answer_ok(note, text, room)
 }
@@ -66,7 +84,7 @@ fn answer_source(source: MediaClockSource, value: &[u8], room: &mut [u8]) -> Ans
     let note = text::part(&notes, Place { start: 0, len });
     let mut texts = [0u8; 1026];
     let wrote = writing::write_media_clock_source(source, value, &mut texts);
-    let len = answer::text_length(wrote);
+    let len = text_length(wrote);
     let text = text::part(&texts, Place { start: 0, len });
     answer_ok(note, text, room)
 }

@@ -144,6 +144,11 @@ pub domain-none : (v : List ℕ) (x : OptDomain) {l : List ℕ} {at : ℕ} → x
     → Put (length v + 11) l at (domainText bare (optDomainMeans v x)) at l
 domain-none v x {l} {at} e = rw e (put-wider (put-none l at) (omega arith))
 
+-- `put_ieee1588`
+pub ieee1588-put : (b : ℕ) {at a last : ℕ} {l k r : List ℕ} → Put 12 l at (word "IEEE1588-200") a k → Put 1 k a (b ∷ []) last r
+    → Put 13 l at (word "IEEE1588-200" ++ b ∷ []) last r
+ieee1588-put b p q = put-then p q
+
 module _ (v : List ℕ) {l : List ℕ} {at last : ℕ} {r : List ℕ} where
   -- `put_version`
   module _ (x : PtpVersion) where
@@ -275,6 +280,7 @@ pub ruleset laws = (
   host-asks,
   ntp-host,
   ntp-traceable,
+  ieee1588-put,
   version-2002,
   version-2008,
   version-2011,

@@ -2,10 +2,11 @@
 // is put there.
 ghost use mathlib.Core.Path.{_≡_};
 ghost use mathlib.Core.Bool.{_&&_};
-ghost use mathlib.Core.List.{[], _∷_};
+ghost use mathlib.Core.List.{[], _∷_, _++_};
 ghost use mathlib.Core.Option.{some};
 ghost use Prim.Native.Nat.{_+_, _*_, _≤_};
 ghost use lib.ListN.{length};
+ghost use Rattle.text.specs.Word.{word};
 ghost use Rattle.number.specs.Decimal.{decimal};
 ghost use Rattle.meaning.specs.Domain.{bare};
 ghost use Rattle.meaning.specs.Meaning.{ptp, versionMeans, domainMeans, optDomainMeans, serverMeans, portMeans, ntpMeans, privateMeans};
@@ -151,13 +152,22 @@ fn put_ntp(room: &mut [u8], at: usize, value: &[u8], server: NtpServerAddr) -> u
     }
 }
 
+// The two versions of IEEE 1588, which differ in their last byte. Of two whole words the compiler makes a store for each byte.
+fn put_ieee1588(room: &mut [u8], at: usize, last: u8) -> usize
+    requires { ⌜ at + 13 ≤ 65536 ⌝ }
+    ensures { λ r. ⌜ Put 13 (now (room .entry)) at (word "IEEE1588-200" ++ last ∷ []) r (now (room .exit)) ⌝ }
+{
+    let to = room::put_bytes(room, at, b"IEEE1588-200");
+    room::put_byte(room, to, last)
+}
+
 fn put_version(room: &mut [u8], at: usize, value: &[u8], version: PtpVersion) -> usize
     requires { ⌜ at + (length (now value) + 16) ≤ 65536 ⌝ }
     ensures { λ r. ⌜ Put (length (now (value .entry)) + 16) (now (room .entry)) at (versionText (versionMeans (now (value .entry)) version)) r (now (room .exit)) ⌝ }
 {
     match version {
-        PtpVersion::Ieee1588_2002 => room::put_bytes(room, at, b"IEEE1588-2002"),
-        PtpVersion::Ieee1588_2008 => room::put_bytes(room, at, b"IEEE1588-2008"),
+        PtpVersion::Ieee1588_2002 => put_ieee1588(room, at, b'2'),
+        PtpVersion::Ieee1588_2008 => put_ieee1588(room, at, b'8'),
         PtpVersion::Ieee8021As_2011 => room::put_bytes(room, at, b"IEEE802.1AS-2011"),
         PtpVersion::Ext(p) => room::put_part(room, at, value, p),
     }

@@ -2,18 +2,21 @@
 use Prim.Native.Nat.{ℕ, zero, suc, _+_, _-_, _*_, _/_, _%_, _^_, _≤_, _<_}
 use mathlib.Core.Path.{_≡_, refl, sym, ap, _∙_}
 use mathlib.Core.List.{List, [], _∷_, _++_, append-assoc, append-nil}
-use native.Mathlib.Nat.{zero-add, add-zero, add-suc, suc-add, mul-assoc, pow-succ', div-div-eq-div-mul, mod-def, mod-mod-of-dvd, dvd-mul-right}
+use mathlib.Core.Bool.{true}
+use native.Mathlib.Nat.{add-zero, add-suc, suc-add}
 use native.Mathlib.Numerals.{add-one}
 use native.Mathlib.Omega.{arith}
-use lib.ListN.{length, getD, take, drop, set, length-append, length-set, take-append-drop}
-use lib.Seq.{sets, length-sets, sets-eq, set-out, set-split, take-suc, take-all, length-take-le, drop-at, drop-length}
+use lib.Dec.{eqb}
+use lib.ListN.{length, getD, take, drop, set, length-append, length-set}
+use lib.Seq.{sets, length-sets, sets-eq, set-out, set-split, take-suc, take-all, take-at, length-take-le, drop-at, drop-length}
 use Rattle.text.specs.declared.Place.{Place}
 use Rattle.text.specs.Place.{Lent, PartAt, bytesAt}
+use Rattle.text.proofs.Bools.{eachBelow, each-below}
 use Rattle.text.proofs.Left.{rest-is}
 use Rattle.text.proofs.Cuts.{bytes-short}
 use Rattle.number.specs.Decimal.{decimal}
 use Rattle.number.proofs.Written.{decimal-one, decimal-more, decimal-length}
-use borrow.Author.Tests.{lt-ltb, le-ltb}
+use borrow.Author.Tests.{lt-ltb, le-ltb, eqb-true}
 use Rattle.number.specs.Hex.{hexCapital, hexSmall, hexCapitals, hexBytes}
 use Rattle.eui64.specs.Eui64.{segmentText, segmentsText, eui64Text}
 use Rattle.room.specs.Put.{Put}
@@ -81,26 +84,39 @@ module _ {l : List ℕ} {at : ℕ} {s : List ℕ} {i : ℕ} {m : List ℕ} (p : 
       ∙ sym (rw (add-one, take-suc s i 0, sets-append, length-take-le) refl) in
       record { within = omega arith; size = ap length e ∙ length-sets l at (take (i + 1) s); so-far = e }
 
-  pub stored-all : length s ≤ i → Put (length s) l at s (at + length s) m
-  stored-all h =
+  pub stored-all : length s ≤ i → m ≡ sets l at s
+  stored-all h = p .so-far ∙ ap (sets l at) (take-all i s h)
+
+  pub stored-room : at + length s ≤ length l → i < length s → at + i < length m
+  stored-room h k = omega (arith, p .size)
+
+-- `put_each`: the first i bytes of the text s are put
+pub record EachPut (l : List ℕ) (at : ℕ) (s : List ℕ) (i to : ℕ) (m : List ℕ) : Type 0 where
+  pub within : i ≤ length s
+  pub size : length m ≡ length l
+  pub so-far : Put i l at (take i s) to m
+
+pub each-start : (l : List ℕ) (at : ℕ) (s : List ℕ) → EachPut l at s 0 at l
+each-start l at s = record { within = omega arith; size = refl; so-far = put-none l at }
+
+module _ {l : List ℕ} {at : ℕ} {s : List ℕ} {i to : ℕ} {m : List ℕ} (p : EachPut l at s i to m) where
+  pub each-asks : at + length s ≤ 65536 → i < length s → to + 1 ≤ 65536
+  each-asks h k = omega (arith, p .so-far .place, p .so-far .bound)
+
+  pub each-more : (next : ℕ) (r : List ℕ) → i < length s → Put 1 m to (getD s i 0 ∷ []) next r → EachPut l at s (i + 1) next r
+  each-more next r h q =
       record {
-        place = refl;
-        bound = omega arith;
-        bytes = p .so-far ∙ ap (sets l at) (take-all i s h);
+        within = omega arith;
+        size = ap length (q .bytes) ∙ length-sets m to (getD s i 0 ∷ []) ∙ p .size;
+        so-far = rw (add-one, take-suc s i 0) (put-wider (put-then (p .so-far) q) (omega arith));
       }
 
-  pub stored-behind : length m ≤ at + i → Put (length s) l at s (at + length s) m
-  stored-behind h =
-      let n : length (take i s) ≡ i = length-take-le i s (p .within) in
-      record {
-        place = refl;
-        bound = omega arith;
-        bytes =
-            sym
-            (ap (sets l at) (sym (take-append-drop i s))
-            ∙ sets-append l at (take i s) (drop i s)
-            ∙ rw (← p .so-far, n) (sets-behind m (at + i) (drop i s) h));
-      }
+  pub each-end : length s ≤ i → Put (length s) l at s to m
+  each-end h = let k : i ≤ length s = p .within in rw (take-all i s h) at (put-wider (p .so-far) k)
+
+-- `put_bytes`
+pub bytes-stored : (l : List ℕ) (at : ℕ) (s m : List ℕ) → m ≡ sets l at s → Put (length s) l at s (at + length s) m
+bytes-stored l at s m e = record { place = refl; bound = omega arith; bytes = e }
 
 -- `put_part`
 module _ (v : Lent) (p : Place) (part : Lent) (is : PartAt v p part) (at : ℕ) where
@@ -211,77 +227,102 @@ module _ (n : ℕ) where
       pub twenty-put : n < 2 ^ 64 → Put 20 l at (decimal n) next m
       twenty-put h = put-wider p (twenty-digits h)
 
--- `hex_capital`
-pub capital-digit : (d : ℕ) → d < 10 → 48 + d ≡ hexCapital d
+-- `hex_capital`: the table has each digit at its place
+abbrev capitals : List ℕ
+capitals = 48 ∷ 49 ∷ 50 ∷ 51 ∷ 52 ∷ 53 ∷ 54 ∷ 55 ∷ 56 ∷ 57 ∷ 65 ∷ 66 ∷ 67 ∷ 68 ∷ 69 ∷ 70 ∷ []
+
+all-capitals : eachBelow 16 (λ d. eqb (getD capitals d 0) (hexCapital d)) ≡ true
 unfolding hexCapital
-capital-digit d h = simp (lt-ltb d 10 h)
+all-capitals = refl
 
-pub capital-letter : (d : ℕ) → 10 ≤ d → 65 + (d - 10) ≡ hexCapital d
-unfolding hexCapital
-capital-letter d h = simp (le-ltb d 10 h)
+pub capital-table : (d : ℕ) → d < 16 → getD capitals d 0 ≡ hexCapital d
+capital-table d h =
+    eqb-true (getD capitals d 0) (hexCapital d) (each-below 16 (λ k. eqb (getD capitals k 0) (hexCapital k)) all-capitals d h)
 
--- `put_segment`
-pub segment-put : (b x y at next last : ℕ) (l m r : List ℕ) → x ≡ hexCapital (b / 16) → y ≡ hexCapital (b % 16)
-    → Put 1 l at (x ∷ []) next m → Put 1 m next (y ∷ []) last r → Put 2 l at (segmentText b) last r
-segment-put b x y at next last l m r e f p q = rw (← e, ← f) (put-then p q)
+-- `put_eui64`: the last k segments of a number, each with a dash behind it
+unfoldable pub dashed : ℕ → ℕ → List ℕ
+dashed zero n = []
+dashed (suc k) n = segmentsText k n ++ 45 ∷ []
 
--- the last segments of n, cut in two
-segments-cut : (j k n : ℕ) → segmentsText (suc (j + k)) n ≡ segmentsText k (n / 256 ^ suc j) ++ 45 ∷ segmentsText j n
-unfolding segmentsText
-segments-cut zero k n = rw zero-add
-segments-cut (suc j) k n =
-    ap (λ (i : ℕ). segmentsText (suc i) n) (suc-add j k)
-    ∙ ap (λ (s : List ℕ). s ++ 45 ∷ segmentText (n % 256)) (segments-cut j k (n / 256))
-    ∙ append-assoc (segmentsText k (n / 256 / 256 ^ suc j)) (45 ∷ segmentsText j (n / 256)) (45 ∷ segmentText (n % 256))
-    ∙ ap (λ (m : ℕ). segmentsText k m ++ 45 ∷ segmentsText (suc j) n)
-    (div-div-eq-div-mul n 256 (256 ^ suc j) ∙ ap (λ (m : ℕ). n / m) (sym (pow-succ' 256 (suc j))))
+last-dashed : (k n : ℕ) → segmentsText k n ≡ dashed k (n / 256) ++ segmentText (n % 256)
+unfolding segmentsText dashed
+last-dashed zero n = refl
+last-dashed (suc k) n = sym (append-assoc (segmentsText k (n / 256)) (45 ∷ []) (segmentText (n % 256)))
 
-shift-down : (n x : ℕ) → (n - 256 * x) / 256 ≡ n / 256 - x
-shift-down n x = omega arith
+-- those of the number are those of what is left, and those that stand from the place of the k-th on
+pub record InDashed (id : ℕ) (text : List ℕ) (k left : ℕ) : Type 0 where
+  pub size : length text ≡ 24
+  pub within : k ≤ 8
+  pub so-far : eui64Text id ++ 45 ∷ [] ≡ dashed k left ++ drop (k * 3) text
 
-low-part : (n m : ℕ) → n % (256 * m) / 256 ≡ n / 256 % m
-low-part n m =
-    ap (λ (k : ℕ). k / 256)
-    (mod-def n (256 * m)
-    ∙ ap (λ (k : ℕ). n - 256 * m * k) (sym (div-div-eq-div-mul n 256 m))
-    ∙ ap (λ (k : ℕ). n - k) (mul-assoc 256 m (n / 256 / m)))
-    ∙ shift-down n (m * (n / 256 / m))
-    ∙ sym (mod-def (n / 256) m)
+pub dashed-start : (id : ℕ) (text : List ℕ) → length text ≡ 24 → InDashed id text 8 id
+unfolding eui64Text dashed
+dashed-start id text e =
+    let f : drop 24 text ≡ [] = ap (λ (k : ℕ). drop k text) (sym e) ∙ drop-length text in
+    record { size = e; within = omega arith; so-far = sym (rw f (append-nil (segmentsText 7 id ++ 45 ∷ []))) }
 
--- they are those of what is left of n below 256 to the power of their number
-segments-low : (k n : ℕ) → segmentsText k (n % 256 ^ suc k) ≡ segmentsText k n
-unfolding segmentsText
-segments-low zero n = let e : n % 256 % 256 ≡ n % 256 = omega arith in rw e
-segments-low (suc k) n =
-    let m : ℕ = 256 ^ suc k in
-    let e : n % (256 * m) % 256 ≡ n % 256 = mod-mod-of-dvd 256 n (dvd-mul-right 256 m) in
-    rw (pow-succ' 256 (suc k), e, low-part n m, segments-low k (n / 256))
+drop-here : (l : List ℕ) (i b : ℕ) → i < length l → drop i (set l i b) ≡ b ∷ drop (i + 1) l
+drop-here l i b h =
+    let f : i + 1 - 1 ≡ i = omega arith in
+    rw f at (drop-set l (i + 1) b (omega arith) (omega arith))
 
--- `put_two_segments`, `put_four_segments`, `put_eui64`: the higher half, a dash, the lower half
-put-dashed : {k at a b last : ℕ} {l m n r s t : List ℕ} → Put k l at s a m → Put 1 m a (45 ∷ []) b n → Put k n b t last r
-    → Put (k + (1 + k)) l at (s ++ 45 ∷ t) last r
-put-dashed p d q = put-then p (put-then d q)
+three-set : (l : List ℕ) (i x y z : ℕ) → i + 2 < length l
+    → drop i (set (set (set l (i + 2) z) (i + 1) y) i x) ≡ x ∷ y ∷ z ∷ drop (i + 3) l
+three-set l i x y z h =
+    let a : List ℕ = set l (i + 2) z in
+    let b : List ℕ = set a (i + 1) y in
+    let e : i + 1 + 1 ≡ i + 2 = omega arith in
+    let f : i + 2 + 1 ≡ i + 3 = omega arith in
+    drop-here b i x (omega (arith, length-set a (i + 1) y, length-set l (i + 2) z))
+    ∙ ap (λ (s : List ℕ). x ∷ s)
+    (rw e at (drop-here a (i + 1) y (omega (arith, length-set l (i + 2) z)))
+    ∙ ap (λ (s : List ℕ). y ∷ s) (rw f at (drop-here l (i + 2) z h)))
 
-module _ (at a b last : ℕ) (l m n r : List ℕ) (dash : Put 1 m a (45 ∷ []) b n) where
-  pub two-put : (id : ℕ) → id < 65536 → Put 2 l at (segmentText (id / 256)) a m → Put 2 n b (segmentText (id % 256)) last r
-      → Put 5 l at (segmentsText 1 id) last r
-  unfolding segmentsText
-  two-put id h p q = let e : id / 256 % 256 ≡ id / 256 = omega arith in rw e (put-dashed p dash q)
+module _ {id : ℕ} {text : List ℕ} {k left : ℕ} (p : InDashed id text k left) where
+  pub dashed-place : 0 < k → (k - 1) * 3 + 2 < 24
+  dashed-place h = omega (arith, p .within)
 
-  pub four-put : (id : ℕ) → Put 5 l at (segmentsText 1 (id / 65536)) a m → Put 5 n b (segmentsText 1 (id % 65536)) last r
-      → Put 11 l at (segmentsText 3 id) last r
-  four-put id p q = rw (segments-cut 1 1 id, ← low) (put-dashed p dash q)
-    where
-      low : segmentsText 1 (id % 65536) ≡ segmentsText 1 id
-      low = segments-low 1 id
+  pub dashed-next : (x y : ℕ) → 0 < k → x ≡ hexCapital (left % 256 / 16) → y ≡ hexCapital (left % 256 % 16)
+      → InDashed id (set (set (set text ((k - 1) * 3 + 2) 45) ((k - 1) * 3 + 1) y) ((k - 1) * 3) x) (k - 1) (left / 256)
+  unfolding dashed
+  dashed-next x y h ex ey =
+      let m : ℕ = k - 1 in
+      let i : ℕ = m * 3 in
+      let a : List ℕ = set text (i + 2) 45 in
+      let b : List ℕ = set a (i + 1) y in
+      let e : k ≡ suc m = omega arith in
+      let f : suc m * 3 ≡ i + 3 = omega arith in
+      record {
+        size = length-set b i x ∙ length-set a (i + 1) y ∙ length-set text (i + 2) 45 ∙ p .size;
+        within = omega (arith, p .within);
+        so-far =
+            p .so-far
+            ∙ ap (λ (j : ℕ). dashed j left ++ drop (j * 3) text) e
+            ∙ append-assoc (segmentsText m left) (45 ∷ []) (drop (suc m * 3) text)
+            ∙ ap (λ (s : List ℕ). s ++ 45 ∷ drop (suc m * 3) text) (last-dashed m left)
+            ∙ append-assoc (dashed m (left / 256)) (segmentText (left % 256)) (45 ∷ drop (suc m * 3) text)
+            ∙ ap (λ (s : List ℕ). dashed m (left / 256) ++ s)
+            (ap (λ (u : ℕ). u ∷ hexCapital (left % 256 % 16) ∷ 45 ∷ drop (suc m * 3) text) (sym ex)
+            ∙ ap (λ (u : ℕ). x ∷ u ∷ 45 ∷ drop (suc m * 3) text) (sym ey)
+            ∙ ap (λ (j : ℕ). x ∷ y ∷ 45 ∷ drop j text) f
+            ∙ sym (three-set text i x y 45 (omega (arith, p .size, p .within))));
+      }
 
-  pub eight-put : (id : ℕ) → Put 11 l at (segmentsText 3 (id / 4294967296)) a m → Put 11 n b (segmentsText 3 (id % 4294967296)) last r
-      → Put 23 l at (eui64Text id) last r
-  unfolding eui64Text
-  eight-put id p q = rw (segments-cut 3 3 id, ← low) (put-dashed p dash q)
-    where
-      low : segmentsText 3 (id % 4294967296) ≡ segmentsText 3 id
-      low = segments-low 3 id
+  pub dashed-count : 23 ≡ length (take 23 text)
+  dashed-count = sym (length-take-le 23 text (omega (arith, p .size)))
+
+  pub dashed-asks : (at : ℕ) → at + 23 ≤ 65536 → at + length (take 23 text) ≤ 65536
+  dashed-asks at h = omega (arith, length-take-le 23 text (omega (arith, p .size)))
+
+  pub dashed-end : (at next : ℕ) (l m : List ℕ) → k ≤ 0 → Put (length (take 23 text)) l at (take 23 text) next m → Put 23 l at (eui64Text id) next m
+  unfolding dashed
+  dashed-end at next l m h q =
+      let e : k ≡ 0 = omega arith in
+      let all : eui64Text id ++ 45 ∷ [] ≡ text = p .so-far ∙ ap (λ (j : ℕ). dashed j left ++ drop (j * 3) text) e in
+      let n : length (eui64Text id) ≡ 23 = omega (arith, ap length all, length-append (eui64Text id) (45 ∷ []), p .size) in
+      let t : take 23 text ≡ eui64Text id = ap (take 23) (sym all) ∙ take-at (eui64Text id) (45 ∷ []) 23 n in
+      let w : length (take 23 text) ≤ 23 = omega (arith, length-take-le 23 text (omega (arith, p .size))) in
+      rw t at (put-wider q w)
 
 -- `put_hex_u64`: the digits of n are those of what is left, and those that stand from `first` on
 pub record InHex (n : ℕ) (digits : List ℕ) (first left : ℕ) : Type 0 where
@@ -374,7 +415,12 @@ pub ruleset laws = (
   stored-start,
   stored-more,
   stored-all,
-  stored-behind,
+  stored-room,
+  each-start,
+  each-asks,
+  each-more,
+  each-end,
+  bytes-stored,
   part-asks,
   part-put,
   spelled-start,
@@ -387,12 +433,13 @@ pub ruleset laws = (
   twenty-asks,
   ten-put,
   twenty-put,
-  capital-digit,
-  capital-letter,
-  segment-put,
-  two-put,
-  four-put,
-  eight-put,
+  capital-table,
+  dashed-start,
+  dashed-place,
+  dashed-next,
+  dashed-count,
+  dashed-asks,
+  dashed-end,
   in-hex-start,
   in-hex-next,
   in-hex-asks,

@@ -5,10 +5,11 @@ ghost use mathlib.Core.Path.{_≡_};
 ghost use mathlib.Core.List.{_∷_, []};
 ghost use Prim.Native.Nat.{_+_, _*_, _≤_, _<_};
 ghost use lib.ListN.{length};
+ghost use lib.Seq.{sets};
 ghost use Rattle.text.specs.Place.{bytesAt};
 ghost use Rattle.number.specs.Decimal.{decimal};
 ghost use Rattle.number.specs.Hex.{hexCapital, hexSmall, hexCapitals, hexBytes};
-ghost use Rattle.eui64.specs.Eui64.{segmentText, segmentsText, eui64Text};
+ghost use Rattle.eui64.specs.Eui64.{eui64Text};
 ghost use Rattle.room.specs.Put.{Put};
 use text::Place;
 
@@ -23,22 +24,44 @@ pub fn put_byte(room: &mut [u8], at: usize, b: u8) -> usize
     at + 1
 }
 
+// Stores a text that fits.
+fn store(room: &mut [u8], at: usize, src: &[u8])
+    requires { ⌜ (at + length (now src) ≤ 65536) × (at + length (now src) ≤ length (now room)) ⌝ }
+    ensures { λ _. ⌜ now (room .exit) ≡ sets (now (room .entry)) at (now (src .entry)) ⌝ }
+{
+    let mut i = 0;
+    while i < src.len() {
+        let to = at + i;
+        room[to] = src[i];
+        i += 1;
+    }
+}
+
+// Puts a text byte by byte.
+fn put_each(room: &mut [u8], at: usize, src: &[u8]) -> usize
+    requires { ⌜ at + length (now src) ≤ 65536 ⌝ }
+    ensures { λ r. ⌜ Put (length (now (src .entry))) (now (room .entry)) at (now (src .entry)) r (now (room .exit)) ⌝ }
+{
+    let mut to = at;
+    let mut i = 0;
+    while i < src.len() {
+        to = put_byte(room, to, src[i]);
+        i += 1;
+    }
+    to
+}
+
 pub fn put_bytes(room: &mut [u8], at: usize, src: &[u8]) -> usize
     requires { ⌜ at + length (now src) ≤ 65536 ⌝ }
     ensures { λ r. ⌜ Put (length (now (src .entry))) (now (room .entry)) at (now (src .entry)) r (now (room .exit)) ⌝ }
 {
     let end = at + src.len();
-    let mut i = 0;
-    while i < src.len() {
-        let to = at + i;
-        // from here on nothing fits
-        if room.len() <= to {
-            return end;
-        }
-        room[to] = src[i];
-        i += 1;
+    // a text that fits is copied with one test
+    if end <= room.len() {
+        store(room, at, src);
+        return end;
     }
-    end
+    put_each(room, at, src)
 }
 
 // The part of a value at a place.
@@ -85,46 +108,29 @@ fn hex_capital(d: u8) -> u8
     requires { ⌜ d < 16 ⌝ }
     ensures { λ r. ⌜ r ≡ hexCapital d ⌝ }
 {
-    if d < 10 {
-        return b'0' + d;
-    }
-    b'A' + (d - 10)
+    let digits = b"0123456789ABCDEF";
+    let i = d as usize;
+    digits[i]
 }
 
-// One segment of an EUI-64; below it two, four, and all eight.
-fn put_segment(room: &mut [u8], at: usize, b: u8) -> usize
-    requires { ⌜ at + 2 ≤ 65536 ⌝ }
-    ensures { λ r. ⌜ Put 2 (now (room .entry)) at (segmentText b) r (now (room .exit)) ⌝ }
-{
-    let to = put_byte(room, at, hex_capital(b / 16));
-    put_byte(room, to, hex_capital(b % 16))
-}
-
-fn put_two_segments(room: &mut [u8], at: usize, n: u16) -> usize
-    requires { ⌜ at + 5 ≤ 65536 ⌝ }
-    ensures { λ r. ⌜ Put 5 (now (room .entry)) at (segmentsText 1 n) r (now (room .exit)) ⌝ }
-{
-    let dash = put_segment(room, at, (n / 256) as u8);
-    let to = put_byte(room, dash, b'-');
-    put_segment(room, to, (n % 256) as u8)
-}
-
-fn put_four_segments(room: &mut [u8], at: usize, n: u32) -> usize
-    requires { ⌜ at + 11 ≤ 65536 ⌝ }
-    ensures { λ r. ⌜ Put 11 (now (room .entry)) at (segmentsText 3 n) r (now (room .exit)) ⌝ }
-{
-    let dash = put_two_segments(room, at, (n / 65536) as u16);
-    let to = put_byte(room, dash, b'-');
-    put_two_segments(room, to, (n % 65536) as u16)
-}
-
+// The segments of an EUI-64, the last made first, each with a `-` behind it. The `-` behind the last one is not put.
 pub fn put_eui64(room: &mut [u8], at: usize, id: u64) -> usize
     requires { ⌜ at + 23 ≤ 65536 ⌝ }
     ensures { λ r. ⌜ Put 23 (now (room .entry)) at (eui64Text id) r (now (room .exit)) ⌝ }
 {
-    let dash = put_four_segments(room, at, (id / 4294967296) as u32);
-    let to = put_byte(room, dash, b'-');
-    put_four_segments(room, to, (id % 4294967296) as u32)
+    let mut text = [0u8; 24];
+    let mut segments: usize = 8;
+    let mut left = id;
+    while 0 < segments {
+        segments -= 1;
+        let first = segments * 3;
+        let b = (left % 256) as u8;
+        text[first + 2] = b'-';
+        text[first + 1] = hex_capital(b % 16);
+        text[first] = hex_capital(b / 16);
+        left = left / 256;
+    }
+    put_bytes(room, at, &text[..23])
 }
 
 // All sixteen digits of base 16 of a number, in capitals.

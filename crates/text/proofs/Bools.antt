@@ -1,8 +1,10 @@
 -- Laws of tests, for proofs that go by the cases of one. Assumes nothing.
-use Prim.Native.Nat.{ℕ}
-use mathlib.Core.Path.{_≡_, refl, sym}
+use Prim.Native.Nat.{ℕ, zero, suc, _<_}
+use mathlib.Core.Path.{_≡_, refl, sym, ap, _∙_}
 use mathlib.Core.Bool.{Bool, true, false, _&&_, _||_}
 use native.Mathlib.Omega.{arith}
+use lib.Dec.{eqb}
+use borrow.Author.Tests.{eqb-true, eqb-false}
 
 -- a proof for each answer of a test is a proof
 pub by-bool : {P : Type 0} (b : Bool) → (b ≡ true → P) → (b ≡ false → P) → P
@@ -44,3 +46,15 @@ or-right false e = e
 pub neither : (a b : Bool) → (a || b) ≡ false → (a ≡ false) × (b ≡ false)
 neither true b e = clash (cc)
 neither false b e = (refl, e)
+
+-- a test of every number below n, which can be computed, and what it tells of each
+abbrev pub eachBelow : ℕ → (ℕ → Bool) → Bool
+eachBelow zero test = true
+eachBelow (suc n) test = eachBelow n test && test n
+
+pub each-below : (n : ℕ) (test : ℕ → Bool) → eachBelow n test ≡ true → (k : ℕ) → k < n → test k ≡ true
+each-below zero test e k h = absurd (omega arith)
+each-below (suc n) test e k h =
+    by-bool (eqb k n)
+    (λ c. ap test (eqb-true k n c) ∙ and-right (eachBelow n test) (test n) e)
+    (λ c. let d : k ≡ n → ⊥ = eqb-false k n c in each-below n test (and-left (eachBelow n test) (test n) e) k (omega arith))

@@ -5,7 +5,7 @@ use mathlib.Core.List.{List, [], _∷_, _++_}
 use mathlib.Core.Bool.{Bool, true, false, cond, _&&_}
 use native.Mathlib.Omega.{arith}
 use lib.Dec.{eqb}
-use lib.ListN.{length, take, drop, length-take, length-drop}
+use lib.ListN.{length, getD, take, drop, length-take, length-drop}
 use lib.Seq.{drop-append-add}
 use borrow.Author.Tests.{eq-eqb, ne-eqb, eqb-true, eqb-false}
 use Rattle.text.specs.declared.Place.{Place}
@@ -13,6 +13,7 @@ use Rattle.text.specs.Place.{bytesAt}
 use Rattle.text.specs.Find.{before, startsPair, beforePair, throughLast, sucOr}
 use Rattle.text.specs.Word.{same, starts, endsIn}
 use Rattle.text.proofs.Bools.{by-bool, clash, and-left, and-right}
+use Rattle.text.proofs.Left.{next-byte, none-left}
 
 -- texts that are the same are equal, and the other way round
 pub same-eq : (s w : List ℕ) → same s w ≡ true → s ≡ w
@@ -32,6 +33,23 @@ same-refl (x ∷ s) = simp (eq-eqb x x refl, same-refl s)
 pub starts-long : (w s : List ℕ) → starts w s ≡ true → length w ≤ length s
 starts-long w s e = omega (arith, length-take (length w) s, ap length (same-eq (take (length w) s) w e))
 
+-- a text that does not begin with a word begins with no longer one, and neither does its front
+pub starts-front : (v w s : List ℕ) → starts v s ≡ false → starts (v ++ w) s ≡ false
+unfolding same
+starts-front [] w s e = clash (cc)
+starts-front (x ∷ v) w [] e = refl
+starts-front (x ∷ v) w (y ∷ s) e =
+    by-bool (eqb y x) (λ c. simp (c, starts-front v w s (simp c at e))) (λ c. simp c)
+
+pub starts-cut : (w s : List ℕ) (k : ℕ) → starts w s ≡ false → starts w (take k s) ≡ false
+unfolding same
+starts-cut [] s k e = clash (cc)
+starts-cut (x ∷ w) [] zero e = refl
+starts-cut (x ∷ w) [] (suc k) e = refl
+starts-cut (x ∷ w) (y ∷ s) zero e = refl
+starts-cut (x ∷ w) (y ∷ s) (suc k) e =
+    by-bool (eqb y x) (λ c. simp (c, starts-cut w s k (simp c at e))) (λ c. simp c)
+
 -- a text that has a last byte is not empty
 pub ends-some : (b : ℕ) (s : List ℕ) → endsIn b s ≡ true → 1 ≤ length s
 unfolding endsIn
@@ -44,6 +62,37 @@ unfolding before
 before-le b [] = omega arith
 before-le b (x ∷ s) =
     by-bool (eqb x b) (λ e. simp e (omega arith)) (λ e. simp e (omega (arith, before-le b s)))
+
+-- the bytes before the first b of what is left from a place on
+module _ (b : ℕ) (s : List ℕ) (i : ℕ) where
+  pub before-here : i < length s → getD s i 0 ≡ b → before b (drop i s) ≡ 0
+  unfolding before
+  before-here h e = ap (before b) (next-byte s i h) ∙ simp (eq-eqb (getD s i 0) b e)
+
+  pub before-later : i < length s → (getD s i 0 ≡ b → ⊥) → before b (drop i s) ≡ 1 + before b (drop (i + 1) s)
+  unfolding before
+  before-later h e = ap (before b) (next-byte s i h) ∙ simp (ne-eqb (getD s i 0) b e) (omega arith)
+
+  pub before-end : length s ≤ i → before b (drop i s) ≡ 0
+  unfolding before
+  before-end h = ap (before b) (none-left s i h)
+
+-- those that are passed, and those of what is left
+pub before-drop : (b : ℕ) (s : List ℕ) (n : ℕ) → n ≤ before b s → before b s ≡ n + before b (drop n s)
+unfolding before
+before-drop b s zero h = omega arith
+before-drop b [] (suc n) h = absurd (omega arith)
+before-drop b (x ∷ s) (suc n) h =
+    by-bool (eqb x b) (λ e. absurd (omega (arith, simp e at h)))
+    (λ e. simp e (omega (arith, before-drop b s n (omega (arith, simp e at h)))))
+
+-- no more than stand before any b
+pub before-most : (b : ℕ) (s : List ℕ) (n : ℕ) → n < length s → getD s n 0 ≡ b → before b s ≤ n
+unfolding before
+before-most b [] n h e = absurd (omega arith)
+before-most b (x ∷ s) zero h e = simp (eq-eqb x b e) (omega arith)
+before-most b (x ∷ s) (suc n) h e =
+    by-bool (eqb x b) (λ c. simp c (omega arith)) (λ c. simp c (omega (arith, before-most b s n (omega arith) e)))
 
 -- as many bytes stand before the first b as were counted
 pub before-length : (b : ℕ) (s : List ℕ) → length (take (before b s) s) ≡ before b s

@@ -1,18 +1,20 @@
 -- One law for each way out of this crate's functions, and the invariants of their loops. Assumes nothing.
-use Prim.Native.Nat.{ℕ, zero, suc, _+_, _-_, _≤_, _<_}
+use Prim.Native.Nat.{ℕ, zero, suc, _+_, _-_, _≤_, _<_, min}
 use mathlib.Core.Path.{_≡_, refl, sym, ap, _∙_}
 use mathlib.Core.List.{List, [], _∷_}
 use mathlib.Core.Bool.{Bool, true, false, cond, _&&_, and-false}
 use native.Mathlib.Omega.{arith}
 use lib.Dec.{eqb}
 use lib.ListN.{length, getD, drop, take, length-drop, length-take}
-use lib.Seq.{take-all, drop-length}
-use borrow.Author.Tests.{eq-eqb, ne-eqb}
+use lib.Seq.{take-all, drop-length, drop-drop, getD-drop}
+use borrow.Author.Tests.{eq-eqb, ne-eqb, eqb-true, eqb-false}
 use Rattle.text.specs.declared.Place.{Place}
-use Rattle.text.specs.Find.{before, startsPair, beforePair, throughLast}
+use Rattle.text.specs.Find.{before, startsPair, beforePair, throughLast, Passes, Nears}
 use Rattle.text.specs.Word.{same, starts, endsIn}
 use Rattle.text.specs.Place.{bytesAt, Lent, PartAt}
-use Rattle.text.proofs.Left.{rest, rest-is, next-byte, none-left, Passed, passed-none, passed-all, passed-more}
+use Rattle.text.proofs.Bools.{or-elim}
+use Rattle.text.proofs.Left.{rest, rest-is, next-byte, none-left, Passed, passed-none, passed-all, passed-more, anyOf, passed-run}
+use Rattle.text.proofs.Cuts.{before-here, before-later, before-end, before-drop, before-most}
 
 -- `find`
 pub find-start : (b : ℕ) (s : List ℕ) → Passed (before b) s 0
@@ -20,72 +22,148 @@ find-start b s = passed-none (before b) s
 
 module _ (b : ℕ) {s : List ℕ} {i : ℕ} (p : Passed (before b) s i) where
   pub find-here : i < length s → getD s i 0 ≡ b → i ≡ before b s
-  unfolding before
-  find-here h e = passed-all p (ap (before b) (next-byte s i h) ∙ simp (eq-eqb (getD s i 0) b e))
+  find-here h e = passed-all p (before-here b s i h e)
 
   pub find-next : i < length s → (getD s i 0 ≡ b → ⊥) → Passed (before b) s (i + 1)
-  unfolding before
-  find-next h e = passed-more p 1 (omega arith) (ap (before b) (next-byte s i h) ∙ simp (ne-eqb (getD s i 0) b e) (omega arith))
+  find-next h e = passed-more p 1 (omega arith) (before-later b s i h e)
 
   pub find-end : length s ≤ i → i ≡ before b s
-  unfolding before
-  find-end h = passed-all p (ap (before b) (none-left s i h))
+  find-end h = passed-all p (before-end b s i h)
 
--- `pass_by_eights`: none of the first bytes of a turn is b
-pub eights-passed : (b : ℕ) (s : List ℕ) (i : ℕ) → (i ≤ length s) × (before b s ≡ i + before b (drop i s)) → Passed (before b) s i
-eights-passed b s i (h, e) = record { within = h; so-far = e }
+pub passes-passed : (b : ℕ) (s : List ℕ) (i : ℕ) → Passes b s i → Passed (before b) s i
+passes-passed b s i (h, e) = record { within = h; so-far = e }
 
-module _ (b : ℕ) {s : List ℕ} {i : ℕ} (p : Passed (before b) s i) (h : 8 ≤ length s - i) (e0 : getD s i 0 ≡ b → ⊥) where
-  one : Passed (before b) s (i + 1)
-  one = find-next b p (omega arith) e0
+-- `find_in_eight`: none of the first bytes is b
+module _ (b : ℕ) (s : List ℕ) (i : ℕ) (h : i + 8 ≤ length s) where
+  abbrev Clear : ℕ → Type 0
+  Clear k = before b (drop i s) ≡ k + before b (drop (i + k) s)
 
-  pub eights-one : before b s ≡ i + 1 + before b (drop (i + 1) s)
-  eights-one = one .so-far
+  found : (k : ℕ) → k < 8 → Clear k → getD s (i + k) 0 ≡ b → i + k ≡ i + min (before b (drop i s)) 8
+  found k l p e = omega (arith, p, before-here b s (i + k) (omega arith) e)
 
-  module _ (e1 : getD s (i + 1) 0 ≡ b → ⊥) where
-    two : Passed (before b) s (i + 2)
-    two = let k : i + 1 + 1 ≡ i + 2 = omega arith in rw k at (find-next b one (omega arith) e1)
+  clear : (k : ℕ) → k < 8 → Clear k → (getD s (i + k) 0 ≡ b → ⊥) → Clear (k + 1)
+  clear k l p e =
+      let f : i + k + 1 ≡ i + (k + 1) = omega arith in
+      omega (arith, p, rw f at (before-later b s (i + k) (omega arith) e))
 
-    pub eights-two : before b s ≡ i + 2 + before b (drop (i + 2) s)
-    eights-two = two .so-far
+  pub eight-first : getD s i 0 ≡ b → i ≡ i + min (before b (drop i s)) 8
+  eight-first e = omega (arith, before-here b s i (omega arith) e)
 
-    module _ (e2 : getD s (i + 2) 0 ≡ b → ⊥) where
-      three : Passed (before b) s (i + 3)
-      three = let k : i + 2 + 1 ≡ i + 3 = omega arith in rw k at (find-next b two (omega arith) e2)
+  module _ (e0 : getD s i 0 ≡ b → ⊥) where
+    one : Clear 1
+    one = before-later b s i (omega arith) e0
 
-      pub eights-three : before b s ≡ i + 3 + before b (drop (i + 3) s)
-      eights-three = three .so-far
+    pub eight-second : getD s (i + 1) 0 ≡ b → i + 1 ≡ i + min (before b (drop i s)) 8
+    eight-second e = found 1 (omega arith) one e
 
-      module _ (e3 : getD s (i + 3) 0 ≡ b → ⊥) where
-        four : Passed (before b) s (i + 4)
-        four = let k : i + 3 + 1 ≡ i + 4 = omega arith in rw k at (find-next b three (omega arith) e3)
+    module _ (e1 : getD s (i + 1) 0 ≡ b → ⊥) where
+      two : Clear 2
+      two = clear 1 (omega arith) one e1
 
-        pub eights-four : before b s ≡ i + 4 + before b (drop (i + 4) s)
-        eights-four = four .so-far
+      pub eight-third : getD s (i + 2) 0 ≡ b → i + 2 ≡ i + min (before b (drop i s)) 8
+      eight-third e = found 2 (omega arith) two e
 
-        module _ (e4 : getD s (i + 4) 0 ≡ b → ⊥) where
-          five : Passed (before b) s (i + 5)
-          five = let k : i + 4 + 1 ≡ i + 5 = omega arith in rw k at (find-next b four (omega arith) e4)
+      module _ (e2 : getD s (i + 2) 0 ≡ b → ⊥) where
+        three : Clear 3
+        three = clear 2 (omega arith) two e2
 
-          pub eights-five : before b s ≡ i + 5 + before b (drop (i + 5) s)
-          eights-five = five .so-far
+        pub eight-fourth : getD s (i + 3) 0 ≡ b → i + 3 ≡ i + min (before b (drop i s)) 8
+        eight-fourth e = found 3 (omega arith) three e
 
-          module _ (e5 : getD s (i + 5) 0 ≡ b → ⊥) where
-            six : Passed (before b) s (i + 6)
-            six = let k : i + 5 + 1 ≡ i + 6 = omega arith in rw k at (find-next b five (omega arith) e5)
+        module _ (e3 : getD s (i + 3) 0 ≡ b → ⊥) where
+          four : Clear 4
+          four = clear 3 (omega arith) three e3
 
-            pub eights-six : before b s ≡ i + 6 + before b (drop (i + 6) s)
-            eights-six = six .so-far
+          pub eight-fifth : getD s (i + 4) 0 ≡ b → i + 4 ≡ i + min (before b (drop i s)) 8
+          eight-fifth e = found 4 (omega arith) four e
 
-            module _ (e6 : getD s (i + 6) 0 ≡ b → ⊥) where
-              seven : Passed (before b) s (i + 7)
-              seven = let k : i + 6 + 1 ≡ i + 7 = omega arith in rw k at (find-next b six (omega arith) e6)
+          module _ (e4 : getD s (i + 4) 0 ≡ b → ⊥) where
+            five : Clear 5
+            five = clear 4 (omega arith) four e4
 
-              pub eights-seven : before b s ≡ i + 7 + before b (drop (i + 7) s)
-              eights-seven = seven .so-far
+            pub eight-sixth : getD s (i + 5) 0 ≡ b → i + 5 ≡ i + min (before b (drop i s)) 8
+            eight-sixth e = found 5 (omega arith) five e
 
-              pub eights-all : (getD s (i + 7) 0 ≡ b → ⊥) → Passed (before b) s (i + 8)
-              eights-all e7 = let k : i + 7 + 1 ≡ i + 8 = omega arith in rw k at (find-next b seven (omega arith) e7)
+            module _ (e5 : getD s (i + 5) 0 ≡ b → ⊥) where
+              six : Clear 6
+              six = clear 5 (omega arith) five e5
+
+              pub eight-seventh : getD s (i + 6) 0 ≡ b → i + 6 ≡ i + min (before b (drop i s)) 8
+              eight-seventh e = found 6 (omega arith) six e
+
+              module _ (e6 : getD s (i + 6) 0 ≡ b → ⊥) where
+                seven : Clear 7
+                seven = clear 6 (omega arith) six e6
+
+                pub eight-eighth : getD s (i + 7) 0 ≡ b → i + 7 ≡ i + min (before b (drop i s)) 8
+                eight-eighth e = found 7 (omega arith) seven e
+
+                pub eight-none : (getD s (i + 7) 0 ≡ b → ⊥) → i + 8 ≡ i + min (before b (drop i s)) 8
+                eight-none e = omega (arith, clear 7 (omega arith) seven e)
+
+-- `pass_by_eights`
+module _ (b : ℕ) {s : List ℕ} {i : ℕ} (p : Passed (before b) s i) (h : 8 ≤ length s - i) where
+  pub eight-asks : i + 8 ≤ length s
+  eight-asks = omega (arith, p .within)
+
+  module _ (next : ℕ) (e : next ≡ i + min (before b (drop i s)) 8) where
+    eight-passed : Passed (before b) s next
+    eight-passed =
+        let n : ℕ = min (before b (drop i s)) 8 in
+        rw (← e) at (passed-more p n (omega (arith, p .within)) (before-drop b (drop i s) n (omega arith) ∙ ap (λ (t : List ℕ). n + before b t) (drop-drop n i s)))
+
+    pub eight-here : next < i + 8 → Passes b s next
+    eight-here l = (eight-passed .within, eight-passed .so-far)
+
+    pub eight-past : i + 8 ≤ next → Passed (before b) s next
+    eight-past l = eight-passed
+
+    pub eight-less : i + 8 ≤ next → length s - next < length s - i
+    eight-less l = omega (arith, eight-passed .within)
+
+pub passed-passes : (b : ℕ) {s : List ℕ} {i : ℕ} → Passed (before b) s i → length s - i < 8 → Passes b s i
+passed-passes b p h = (p .within, p .so-far)
+
+-- `pass_eights_at_once`
+abbrev is : ℕ → ℕ → Bool
+is b x = eqb x b
+
+pub none-eight : (b : ℕ) {s : List ℕ} {i : ℕ} → Passed (before b) s i → 8 ≤ length s → i ≤ length s - 8 → anyOf (is b) s i 7 ≡ false → Passed (before b) s (i + 8)
+none-eight b {s} p m h e =
+    passed-run (is b) (λ k q l f. find-next b q l (eqb-false (getD s k 0) b f)) p 7 (omega arith) e
+
+some-run : (b : ℕ) (s : List ℕ) (i n : ℕ) → i + n < length s → anyOf (is b) s i n ≡ true → before b (drop i s) < suc n
+some-run b s i zero h e = omega (arith, before-here b s i (omega arith) (eqb-true (getD s i 0) b e))
+some-run b s i (suc n) h e =
+    or-elim (anyOf (is b) s i n) (eqb (getD s (i + suc n) 0) b)
+    (λ f. omega (arith, some-run b s i n (omega arith) f))
+    (λ f.
+    let g : getD (drop i s) (suc n) 0 ≡ b = getD-drop i s (suc n) 0 ∙ eqb-true (getD s (i + suc n) 0) b f in
+    omega (arith, before-most b (drop i s) (suc n) (omega (arith, length-drop i s)) g))
+    e
+
+module _ (b : ℕ) (s : List ℕ) where
+  pub nears-short : length s < 8 → Nears b s 0
+  nears-short h = ((omega arith, omega arith), λ k. absurd (omega arith))
+
+  module _ {i : ℕ} (p : Passed (before b) s i) where
+    pub nears-here : 8 ≤ length s → i ≤ length s - 8 → anyOf (is b) s i 7 ≡ true → Nears b s i
+    nears-here m h e = ((p .within, p .so-far), λ k. some-run b s i 7 (omega arith) e)
+
+    pub nears-end : length s - 8 < i → Nears b s i
+    nears-end h = ((p .within, p .so-far), λ k. absurd (omega arith))
+
+-- `find_far`
+module _ (b : ℕ) (s : List ℕ) (i : ℕ) (p : Nears b s i) where
+  pub far-passed : Passed (before b) s i
+  far-passed = passes-passed b s i (p .0)
+
+  module _ (h : 8 ≤ length s - i) where
+    pub far-asks : i + 8 ≤ length s
+    far-asks = eight-asks b far-passed h
+
+    pub far-here : (r : ℕ) → r ≡ i + min (before b (drop i s)) 8 → r ≡ before b s
+    far-here r e = omega (arith, e, p .1 h, far-passed .so-far)
 
 -- `is_pair_at`
 not-first : (a b x : ℕ) (s : List ℕ) → (x ≡ a → ⊥) → startsPair a b (x ∷ s) ≡ false
@@ -250,15 +328,28 @@ pub ruleset laws = (
   find-here,
   find-next,
   find-end,
-  eights-passed,
-  eights-one,
-  eights-two,
-  eights-three,
-  eights-four,
-  eights-five,
-  eights-six,
-  eights-seven,
-  eights-all,
+  passes-passed,
+  eight-first,
+  eight-second,
+  eight-third,
+  eight-fourth,
+  eight-fifth,
+  eight-sixth,
+  eight-seventh,
+  eight-eighth,
+  eight-none,
+  eight-asks,
+  eight-here,
+  eight-past,
+  eight-less,
+  passed-passes,
+  none-eight,
+  nears-short,
+  nears-here,
+  nears-end,
+  far-passed,
+  far-asks,
+  far-here,
   pair-first,
   pair-short,
   pair-second,

@@ -1,8 +1,8 @@
 // Texts as bytes: a byte or a mark is looked for, a text is compared with a word, and a part is taken at its place.
 ghost use mathlib.Core.Path.{_≡_};
-ghost use Prim.Native.Nat.{_+_, _≤_, _<_};
+ghost use Prim.Native.Nat.{_+_, _≤_, _<_, min};
 ghost use lib.ListN.{length, drop};
-ghost use Rattle.text.specs.Find.{before, beforePair, startsPair, throughLast};
+ghost use Rattle.text.specs.Find.{before, beforePair, startsPair, throughLast, Passes, Nears};
 ghost use Rattle.text.specs.Word.{same, starts, endsIn};
 ghost use Rattle.text.specs.Place.{PartAt, bytesAt};
 
@@ -29,37 +29,49 @@ pub fn part(s: &[u8], p: Place) -> &[u8]
     &s[start..end]
 }
 
+// The first place of `b` among the eight bytes from `i` on: the place behind them where none of them is `b`.
+fn find_in_eight(s: &[u8], i: usize, b: u8) -> usize
+    requires { ⌜ i + 8 ≤ length (now s) ⌝ }
+    ensures { λ r. ⌜ r ≡ i + min (before b (drop i (now (s .entry)))) 8 ⌝ }
+{
+    if s[i] == b {
+        return i;
+    }
+    if s[i + 1] == b {
+        return i + 1;
+    }
+    if s[i + 2] == b {
+        return i + 2;
+    }
+    if s[i + 3] == b {
+        return i + 3;
+    }
+    if s[i + 4] == b {
+        return i + 4;
+    }
+    if s[i + 5] == b {
+        return i + 5;
+    }
+    if s[i + 6] == b {
+        return i + 6;
+    }
+    if s[i + 7] == b {
+        return i + 7;
+    }
+    i + 8
+}
+
 // Passes bytes that are not `b`, eight a turn, and stops at the first `b` or where fewer than eight are left.
 fn pass_by_eights(s: &[u8], b: u8) -> usize
-    ensures { λ r. ⌜ (r ≤ length (now (s .entry))) × (before b (now (s .entry)) ≡ r + before b (drop r (now (s .entry)))) ⌝ }
+    ensures { λ r. ⌜ Passes b (now (s .entry)) r ⌝ }
 {
     let mut i = 0;
     while 8 <= s.len() - i {
-        if s[i] == b {
-            return i;
+        let next = find_in_eight(s, i, b);
+        if next < i + 8 {
+            return next;
         }
-        if s[i + 1] == b {
-            return i + 1;
-        }
-        if s[i + 2] == b {
-            return i + 2;
-        }
-        if s[i + 3] == b {
-            return i + 3;
-        }
-        if s[i + 4] == b {
-            return i + 4;
-        }
-        if s[i + 5] == b {
-            return i + 5;
-        }
-        if s[i + 6] == b {
-            return i + 6;
-        }
-        if s[i + 7] == b {
-            return i + 7;
-        }
-        i += 8;
+        i = next;
     }
     i
 }
@@ -69,6 +81,50 @@ pub fn find(s: &[u8], b: u8) -> usize
     ensures { λ r. ⌜ r ≡ before b (now (s .entry)) ⌝ }
 {
     let mut i = pass_by_eights(s, b);
+    while i < s.len() {
+        if s[i] == b {
+            return i;
+        }
+        i += 1;
+    }
+    i
+}
+
+// Passes bytes that are not `b`, eight a turn by one test, and stops where one of the next eight is `b` or fewer are left. Which of them it is
+// is found by its caller: the compiler makes one comparison of the eight tests only where nothing else asks for their answers.
+fn pass_eights_at_once(s: &[u8], b: u8) -> usize
+    ensures { λ r. ⌜ Nears b (now (s .entry)) r ⌝ }
+{
+    if s.len() < 8 {
+        return 0;
+    }
+    let last = s.len() - 8;
+    let mut i = 0;
+    while i <= last {
+        let found = (s[i] == b)
+            | (s[i + 1] == b)
+            | (s[i + 2] == b)
+            | (s[i + 3] == b)
+            | (s[i + 4] == b)
+            | (s[i + 5] == b)
+            | (s[i + 6] == b)
+            | (s[i + 7] == b);
+        if found {
+            return i;
+        }
+        i += 8;
+    }
+    i
+}
+
+// As `find`, and quicker where `b` stands far off.
+pub fn find_far(s: &[u8], b: u8) -> usize
+    ensures { λ r. ⌜ r ≡ before b (now (s .entry)) ⌝ }
+{
+    let mut i = pass_eights_at_once(s, b);
+    if 8 <= s.len() - i {
+        return find_in_eight(s, i, b);
+    }
     while i < s.len() {
         if s[i] == b {
             return i;

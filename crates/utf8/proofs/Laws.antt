@@ -6,12 +6,11 @@ use mathlib.Core.List.{List, [], _∷_}
 use mathlib.Core.Bool.{Bool, true, false, _&&_, and-false}
 use native.Mathlib.Omega.{arith}
 use native.Mathlib.Numerals.{sub-one}
-use lib.Bits.{bitOr, or-add-and, and-le-l, and-le-r}
 use lib.Dec.{leb, eqb}
 use lib.ListN.{length, drop, getD, length-drop}
 use lib.Seq.{drop-drop}
-use borrow.Author.Tests.{le-leb, lt-leb, eq-eqb, ne-eqb}
-use Rattle.text.proofs.Left.{rest, rest-is, next-byte, none-left, Passed, passed-none, passed-all, passed-more}
+use borrow.Author.Tests.{le-leb, lt-leb, leb-false, eq-eqb, ne-eqb}
+use Rattle.text.proofs.Left.{rest, rest-is, next-byte, none-left, Passed, passed-none, passed-all, passed-more, anyOf, passed-run}
 use Rattle.abnf.specs.Rule.{Rule, nothing, range, _then_, _thenMany_, longest}
 use Rattle.abnf.proofs.Rules.{range-then}
 use Rattle.abnf.proofs.Many.{many-none, many-cons, then-many, range-many}
@@ -131,28 +130,14 @@ module _ {s : List ℕ} {i : ℕ} (p : Passed (longest utf8Octets) s i) where
       let (h, e) = rw (rest-is i s) at q in
       passed-more p r (omega (arith, length-drop i s, p .within)) (rw (drop-drop r i s) at e)
 
--- every bit that one of the bytes from i to i + n has
-abbrev bits : List ℕ → ℕ → ℕ → ℕ
-bits s i zero = getD s i 0
-bits s i (suc n) = bitOr (bits s i n) (getD s (i + suc n) 0)
+-- `pass_ascii_by_eights`
+abbrev high : ℕ → Bool
+high x = leb 127 x
 
-or-below : (a b : ℕ) → bitOr a b < 128 → (a < 128) × (b < 128)
-or-below a b h =
-    let e = or-add-and a b in
-    let l = and-le-l a b in
-    let r = and-le-r a b in
-    (omega arith, omega arith)
-
-module _ {s : List ℕ} {i : ℕ} (p : Passed (longest utf8Octets) s i) where
-  ascii-run : (n : ℕ) → i + n < length s → bits s i n < 128 → Passed (longest utf8Octets) s (i + suc n)
-  ascii-run zero h k = ascii-next p (omega arith) k
-  ascii-run (suc n) h k =
-      let e : i + suc n + 1 ≡ i + suc (suc n) = omega arith in
-      let (f, l) = or-below (bits s i n) (getD s (i + suc n) 0) k in
-      rw e at (ascii-next (ascii-run n (omega arith) f) h l)
-
-  pub ascii-eight : 8 ≤ length s - i → bits s i 7 < 128 → Passed (longest utf8Octets) s (i + 8)
-  ascii-eight h k = ascii-run 7 (omega arith) k
+pub ascii-eight : {s : List ℕ} {i : ℕ} → Passed (longest utf8Octets) s i → 8 ≤ length s - i → anyOf high s i 7 ≡ false
+    → Passed (longest utf8Octets) s (i + 8)
+ascii-eight {s} p h e =
+    passed-run high (λ k q l f. ascii-next q l (omega (arith, leb-false 127 (getD s k 0) f))) p 7 (omega arith) e
 
 module _ (s : List ℕ) (n : ℕ) (e : n ≡ longest utf8Octets s) where
   all-read : utf8Octets s ≡ eqb n (length s)

@@ -36,21 +36,22 @@ fn lead_of(first: u8) -> Lead
     }
 }
 
-// Passes bytes below 128, eight a turn, and stops where one of the next eight is 128 or more, or fewer are left.
+// Passes bytes below 127, eight a turn, and stops where one of the next eight is 127 or more, or fewer are left. (127 and not 128: of eight tests
+// of the highest bit the compiler does not make one comparison.)
 fn pass_ascii_by_eights(s: &[u8]) -> usize
     ensures { λ r. ⌜ Passes (now (s .entry)) r ⌝ }
 {
     let mut i = 0;
     while 8 <= s.len() - i {
-        let bits = s[i]
-            | s[i + 1]
-            | s[i + 2]
-            | s[i + 3]
-            | s[i + 4]
-            | s[i + 5]
-            | s[i + 6]
-            | s[i + 7];
-        if 0x80 <= bits {
+        let high = (0x7F <= s[i])
+            | (0x7F <= s[i + 1])
+            | (0x7F <= s[i + 2])
+            | (0x7F <= s[i + 3])
+            | (0x7F <= s[i + 4])
+            | (0x7F <= s[i + 5])
+            | (0x7F <= s[i + 6])
+            | (0x7F <= s[i + 7]);
+        if high {
             return i;
         }
         i += 8;

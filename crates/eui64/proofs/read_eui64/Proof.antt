@@ -23,6 +23,9 @@ loop-holds c = search (needs, laws)
 mul-at : tie.Need-mul-at Inv-loop μ-loop
 mul-at c = search (needs, laws)
 
+has-two-bytes-requires : tie.Need-has-two-bytes-requires Inv-loop μ-loop
+has-two-bytes-requires c κs = search (needs, laws)
+
 sub-find : tie.Need-sub-find Inv-loop μ-loop
 sub-find c = search (needs, laws)
 
@@ -93,6 +96,7 @@ read-eui64-spec =
     returns
     loop-holds
     mul-at
+    has-two-bytes-requires
     sub-find
     part-find-start
     part-find-end

@@ -1,23 +1,35 @@
 -- `lines::run` meets its contract: what is settled of all of the fragment is settled by what is left of it.
-use Rattle.lines.proofs.Laws.{Run, laws}
-use borrow.Author.Needs.{needs}
+use Rattle.lines.proofs.Laws.{Run, run-fits, laws}
 use lib.ListN.{length}
 use Rattle.lines.specs.Steps.{progress}
 use Prim.Native.Nat.{_-_}
+use borrow.Author.Needs.{needs}
 use Rattle.lines.proofs.run.Statement.{statement}
 use Rattle.lines.proofs.run.Tie as tie
 
 abbrev Inv-loop : tie.InvT-loop
-Inv-loop memory₀ begun text room₀ totals₀ at₀ len₀ i₀ e₀ memory room totals at len i e = Run memory₀ begun text room₀ totals₀ memory room (progress at totals) len i e
+Inv-loop memory₀ begun text room₀ totals₀ at₀ len₀ i₀ memory room totals at len i = Run memory₀ begun text room₀ totals₀ memory room (progress at totals) len i
 
 abbrev μ-loop : tie.MeasureT-loop
-μ-loop memory₀ begun text room₀ totals₀ at₀ len₀ i₀ e₀ memory room totals at len i e = length text - i
-
-find-requires : tie.Need-find-requires Inv-loop μ-loop
-find-requires c κs = search (needs, laws)
+μ-loop memory₀ begun text room₀ totals₀ at₀ len₀ i₀ memory room totals at len i = length text - i
 
 loop-holds : tie.Need-loop-holds Inv-loop μ-loop
 loop-holds c = search (needs, laws)
+
+sub-find-far : tie.Need-sub-find-far Inv-loop μ-loop
+sub-find-far c = search (needs, laws)
+
+part-find-far-start : tie.Need-part-find-far-start Inv-loop μ-loop
+part-find-far-start c = search (needs, laws)
+
+part-find-far-end : tie.Need-part-find-far-end Inv-loop μ-loop
+part-find-far-end c = search (needs, laws)
+
+find-far-requires : tie.Need-find-far-requires Inv-loop μ-loop
+find-far-requires c κs = search (needs, laws)
+
+add-e : tie.Need-add-e Inv-loop μ-loop
+add-e c = search (needs, laws)
 
 sub-end-line : tie.Need-sub-end-line Inv-loop μ-loop
 sub-end-line c = search (needs, laws)
@@ -32,28 +44,13 @@ end-line-requires : tie.Need-end-line-requires Inv-loop μ-loop
 end-line-requires c κs = search (needs, laws)
 
 add-at : tie.Need-add-at Inv-loop μ-loop
-add-at c = search (needs, laws)
+add-at c = search run-fits
 
 count-requires : tie.Need-count-requires Inv-loop μ-loop
 count-requires c κs = search (needs, laws)
 
 add-i : tie.Need-add-i Inv-loop μ-loop
 add-i c = search (needs, laws)
-
-sub-find : tie.Need-sub-find Inv-loop μ-loop
-sub-find c = search (needs, laws)
-
-part-find-start : tie.Need-part-find-start Inv-loop μ-loop
-part-find-start c = search (needs, laws)
-
-part-find-end : tie.Need-part-find-end Inv-loop μ-loop
-part-find-end c = search (needs, laws)
-
-find-requires-2 : tie.Need-find-requires-2 Inv-loop μ-loop
-find-requires-2 c κs = search (needs, laws)
-
-add-e : tie.Need-add-e Inv-loop μ-loop
-add-e c = search (needs, laws)
 
 loop-less : tie.Need-loop-less Inv-loop μ-loop
 loop-less c = search (needs, laws)
@@ -88,8 +85,12 @@ run-spec =
     (tie.spec
     Inv-loop
     μ-loop
-    find-requires
     loop-holds
+    sub-find-far
+    part-find-far-start
+    part-find-far-end
+    find-far-requires
+    add-e
     sub-end-line
     part-end-line-start
     part-end-line-end
@@ -97,11 +98,6 @@ run-spec =
     add-at
     count-requires
     add-i
-    sub-find
-    part-find-start
-    part-find-end
-    find-requires-2
-    add-e
     loop-less
     loop-again
     sub-keep

@@ -1,32 +1,32 @@
--- `mediaclk::read_source` meets its contract: the value behind `id=` is one law, a value without it the second.
+-- `mediaclk::read_source` meets its contract: the clock is read behind the id, or the refusal of the id is handed on.
 use Rattle.mediaclk.proofs.Laws.{laws}
 use borrow.Author.Needs.{needs}
 use Rattle.mediaclk.proofs.read_source.Statement.{statement}
 use Rattle.mediaclk.proofs.read_source.Tie as tie
 
-slice-aggregate-has-prefix : tie.Need-slice-aggregate-has-prefix
-slice-aggregate-has-prefix c = search needs
+read-front-requires : tie.Need-read-front-requires
+read-front-requires c κs = search (needs, laws)
 
-has-prefix-requires : tie.Need-has-prefix-requires
-has-prefix-requires c κs = search needs
+enum-known-id : tie.Need-enum-known-id
+enum-known-id c = search (needs, laws)
 
-sub-read-tagged : tie.Need-sub-read-tagged
-sub-read-tagged c = search (needs, laws)
+sub-read-behind-id : tie.Need-sub-read-behind-id
+sub-read-behind-id c = search (needs, laws)
 
-part-read-tagged-start : tie.Need-part-read-tagged-start
-part-read-tagged-start c = search (needs, laws)
+part-read-behind-id-start : tie.Need-part-read-behind-id-start
+part-read-behind-id-start c = search (needs, laws)
 
-part-read-tagged-end : tie.Need-part-read-tagged-end
-part-read-tagged-end c = search needs
+part-read-behind-id-end : tie.Need-part-read-behind-id-end
+part-read-behind-id-end c = search (needs, laws)
 
-read-tagged-requires : tie.Need-read-tagged-requires
-read-tagged-requires c κs = search needs
+read-behind-id-requires : tie.Need-read-behind-id-requires
+read-behind-id-requires c κs = search (needs, laws)
+
+enum-known-r : tie.Need-enum-known-r
+enum-known-r c = search (needs, laws)
 
 returns : tie.Need-returns
 returns c = search (needs, laws)
-
-read-behind-id-requires : tie.Need-read-behind-id-requires
-read-behind-id-requires c κs = search needs
 
 returns-2 : tie.Need-returns-2
 returns-2 c = search (needs, laws)
@@ -35,12 +35,12 @@ pub read-source-spec : {M : Type 1} → statement M
 read-source-spec =
     tie.close
     (tie.spec
-    slice-aggregate-has-prefix
-    has-prefix-requires
-    sub-read-tagged
-    part-read-tagged-start
-    part-read-tagged-end
-    read-tagged-requires
-    returns
+    read-front-requires
+    enum-known-id
+    sub-read-behind-id
+    part-read-behind-id-start
+    part-read-behind-id-end
     read-behind-id-requires
+    enum-known-r
+    returns
     returns-2)

@@ -1,20 +1,14 @@
--- `room::hex_capital` meets its contract, each case of the definition by its own test.
+-- `room::hex_capital` meets its contract: the table has each digit at its place.
 use Rattle.room.proofs.Laws.{laws}
 use borrow.Author.Needs.{needs}
 use Rattle.room.proofs.hex_capital.Statement.{statement}
 use Rattle.room.proofs.hex_capital.Tie as tie
 
-add-result : tie.Need-add-result
-add-result c = search needs
+element-copy-out-result : tie.Need-element-copy-out-result
+element-copy-out-result c = search needs
 
 returns : tie.Need-returns
 returns c = search (needs, laws)
 
-add-result-2 : tie.Need-add-result-2
-add-result-2 c = search needs
-
-returns-2 : tie.Need-returns-2
-returns-2 c = search (needs, laws)
-
 pub hex-capital-spec : {M : Type 1} → statement M
-hex-capital-spec = tie.close (tie.spec add-result returns add-result-2 returns-2)
+hex-capital-spec = tie.close (tie.spec element-copy-out-result returns)

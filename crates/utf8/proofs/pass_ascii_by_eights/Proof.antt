@@ -1,4 +1,4 @@
--- `utf8::pass_ascii_by_eights` meets its contract: where the `|` of bytes is below 128, each of them is.
+-- `utf8::pass_ascii_by_eights` meets its contract: where the test of eight bytes fails, each of them is below 128.
 use Rattle.utf8.proofs.Laws.{laws}
 use Rattle.utf8.specs.Utf8.{utf8Octets}
 use Rattle.abnf.specs.Rule.{longest}
@@ -21,50 +21,50 @@ loop-holds c = search (needs, laws)
 sub-loop : tie.Need-sub-loop Inv-loop μ-loop
 sub-loop c = search (needs, laws)
 
-shared-slice-read-bits : tie.Need-shared-slice-read-bits Inv-loop μ-loop
-shared-slice-read-bits c = search (needs, laws)
+shared-slice-read-high : tie.Need-shared-slice-read-high Inv-loop μ-loop
+shared-slice-read-high c = search (needs, laws)
 
-add-bits : tie.Need-add-bits Inv-loop μ-loop
-add-bits c = search (needs, laws)
+add-high : tie.Need-add-high Inv-loop μ-loop
+add-high c = search (needs, laws)
 
-shared-slice-read-bits-2 : tie.Need-shared-slice-read-bits-2 Inv-loop μ-loop
-shared-slice-read-bits-2 c = search (needs, laws)
+shared-slice-read-high-2 : tie.Need-shared-slice-read-high-2 Inv-loop μ-loop
+shared-slice-read-high-2 c = search (needs, laws)
 
-add-bits-2 : tie.Need-add-bits-2 Inv-loop μ-loop
-add-bits-2 c = search (needs, laws)
+add-high-2 : tie.Need-add-high-2 Inv-loop μ-loop
+add-high-2 c = search (needs, laws)
 
-shared-slice-read-bits-3 : tie.Need-shared-slice-read-bits-3 Inv-loop μ-loop
-shared-slice-read-bits-3 c = search (needs, laws)
+shared-slice-read-high-3 : tie.Need-shared-slice-read-high-3 Inv-loop μ-loop
+shared-slice-read-high-3 c = search (needs, laws)
 
-add-bits-3 : tie.Need-add-bits-3 Inv-loop μ-loop
-add-bits-3 c = search (needs, laws)
+add-high-3 : tie.Need-add-high-3 Inv-loop μ-loop
+add-high-3 c = search (needs, laws)
 
-shared-slice-read-bits-4 : tie.Need-shared-slice-read-bits-4 Inv-loop μ-loop
-shared-slice-read-bits-4 c = search (needs, laws)
+shared-slice-read-high-4 : tie.Need-shared-slice-read-high-4 Inv-loop μ-loop
+shared-slice-read-high-4 c = search (needs, laws)
 
-add-bits-4 : tie.Need-add-bits-4 Inv-loop μ-loop
-add-bits-4 c = search (needs, laws)
+add-high-4 : tie.Need-add-high-4 Inv-loop μ-loop
+add-high-4 c = search (needs, laws)
 
-shared-slice-read-bits-5 : tie.Need-shared-slice-read-bits-5 Inv-loop μ-loop
-shared-slice-read-bits-5 c = search (needs, laws)
+shared-slice-read-high-5 : tie.Need-shared-slice-read-high-5 Inv-loop μ-loop
+shared-slice-read-high-5 c = search (needs, laws)
 
-add-bits-5 : tie.Need-add-bits-5 Inv-loop μ-loop
-add-bits-5 c = search (needs, laws)
+add-high-5 : tie.Need-add-high-5 Inv-loop μ-loop
+add-high-5 c = search (needs, laws)
 
-shared-slice-read-bits-6 : tie.Need-shared-slice-read-bits-6 Inv-loop μ-loop
-shared-slice-read-bits-6 c = search (needs, laws)
+shared-slice-read-high-6 : tie.Need-shared-slice-read-high-6 Inv-loop μ-loop
+shared-slice-read-high-6 c = search (needs, laws)
 
-add-bits-6 : tie.Need-add-bits-6 Inv-loop μ-loop
-add-bits-6 c = search (needs, laws)
+add-high-6 : tie.Need-add-high-6 Inv-loop μ-loop
+add-high-6 c = search (needs, laws)
 
-shared-slice-read-bits-7 : tie.Need-shared-slice-read-bits-7 Inv-loop μ-loop
-shared-slice-read-bits-7 c = search (needs, laws)
+shared-slice-read-high-7 : tie.Need-shared-slice-read-high-7 Inv-loop μ-loop
+shared-slice-read-high-7 c = search (needs, laws)
 
-add-bits-7 : tie.Need-add-bits-7 Inv-loop μ-loop
-add-bits-7 c = search (needs, laws)
+add-high-7 : tie.Need-add-high-7 Inv-loop μ-loop
+add-high-7 c = search (needs, laws)
 
-shared-slice-read-bits-8 : tie.Need-shared-slice-read-bits-8 Inv-loop μ-loop
-shared-slice-read-bits-8 c = search (needs, laws)
+shared-slice-read-high-8 : tie.Need-shared-slice-read-high-8 Inv-loop μ-loop
+shared-slice-read-high-8 c = search (needs, laws)
 
 returns : tie.Need-returns Inv-loop μ-loop
 returns c = search (needs, laws)
@@ -89,21 +89,21 @@ pass-ascii-by-eights-spec =
     μ-loop
     loop-holds
     sub-loop
-    shared-slice-read-bits
-    add-bits
-    shared-slice-read-bits-2
-    add-bits-2
-    shared-slice-read-bits-3
-    add-bits-3
-    shared-slice-read-bits-4
-    add-bits-4
-    shared-slice-read-bits-5
-    add-bits-5
-    shared-slice-read-bits-6
-    add-bits-6
-    shared-slice-read-bits-7
-    add-bits-7
-    shared-slice-read-bits-8
+    shared-slice-read-high
+    add-high
+    shared-slice-read-high-2
+    add-high-2
+    shared-slice-read-high-3
+    add-high-3
+    shared-slice-read-high-4
+    add-high-4
+    shared-slice-read-high-5
+    add-high-5
+    shared-slice-read-high-6
+    add-high-6
+    shared-slice-read-high-7
+    add-high-7
+    shared-slice-read-high-8
     returns
     add-i
     loop-less

@@ -7,29 +7,23 @@ use Rattle.recordtext.proofs.reference.put_version.Tie as tie
 enum-told : tie.Need-enum-told
 enum-told c = search needs
 
+put-ieee1588-requires : tie.Need-put-ieee1588-requires
+put-ieee1588-requires c κs = search needs
+
+enum-told-2 : tie.Need-enum-told-2
+enum-told-2 c = search needs
+
+put-ieee1588-requires-2 : tie.Need-put-ieee1588-requires-2
+put-ieee1588-requires-2 c κs = search needs
+
+enum-told-3 : tie.Need-enum-told-3
+enum-told-3 c = search needs
+
 slice-aggregate-put-bytes : tie.Need-slice-aggregate-put-bytes
 slice-aggregate-put-bytes c = search needs
 
 put-bytes-requires : tie.Need-put-bytes-requires
 put-bytes-requires c κs = search needs
-
-enum-told-2 : tie.Need-enum-told-2
-enum-told-2 c = search needs
-
-slice-aggregate-put-bytes-2 : tie.Need-slice-aggregate-put-bytes-2
-slice-aggregate-put-bytes-2 c = search needs
-
-put-bytes-requires-2 : tie.Need-put-bytes-requires-2
-put-bytes-requires-2 c κs = search needs
-
-enum-told-3 : tie.Need-enum-told-3
-enum-told-3 c = search needs
-
-slice-aggregate-put-bytes-3 : tie.Need-slice-aggregate-put-bytes-3
-slice-aggregate-put-bytes-3 c = search needs
-
-put-bytes-requires-3 : tie.Need-put-bytes-requires-3
-put-bytes-requires-3 c κs = search needs
 
 enum-known-version : tie.Need-enum-known-version
 enum-known-version c = search needs
@@ -66,14 +60,12 @@ put-version-spec =
     tie.close
     (tie.spec
     enum-told
+    put-ieee1588-requires
+    enum-told-2
+    put-ieee1588-requires-2
+    enum-told-3
     slice-aggregate-put-bytes
     put-bytes-requires
-    enum-told-2
-    slice-aggregate-put-bytes-2
-    put-bytes-requires-2
-    enum-told-3
-    slice-aggregate-put-bytes-3
-    put-bytes-requires-3
     enum-known-version
     put-part-requires
     same-length

@@ -1,8 +1,8 @@
--- `answer::answer_mediaclk` meets its contract: what was read settles the reply.
+-- `answer::put_mediaclk` meets its contract: what was read is answered, accepted or refused.
 use Rattle.answer.proofs.Laws.{laws}
 use borrow.Author.Needs.{needs}
-use Rattle.answer.proofs.answer_mediaclk.Statement.{statement}
-use Rattle.answer.proofs.answer_mediaclk.Tie as tie
+use Rattle.answer.proofs.put_mediaclk.Statement.{statement}
+use Rattle.answer.proofs.put_mediaclk.Tie as tie
 
 read-media-clock-source-requires : tie.Need-read-media-clock-source-requires
 read-media-clock-source-requires c κs = search needs
@@ -10,14 +10,14 @@ read-media-clock-source-requires c κs = search needs
 enum-known-source : tie.Need-enum-known-source
 enum-known-source c = search needs
 
-answer-source-requires : tie.Need-answer-source-requires
-answer-source-requires c κs = search (needs, laws)
+put-ok-source-requires : tie.Need-put-ok-source-requires
+put-ok-source-requires c κs = search (needs, laws)
 
 enum-known-refusal : tie.Need-enum-known-refusal
 enum-known-refusal c = search needs
 
-answer-refusal-requires : tie.Need-answer-refusal-requires
-answer-refusal-requires c κs = search needs
+put-no-requires : tie.Need-put-no-requires
+put-no-requires c κs = search needs
 
 same-length : tie.Need-same-length
 same-length c = search needs
@@ -31,15 +31,15 @@ same-length-2 c = search needs
 returns-2 : tie.Need-returns-2
 returns-2 c = search (needs, laws)
 
-pub answer-mediaclk-spec : {M : Type 1} → statement M
-answer-mediaclk-spec =
+pub put-mediaclk-spec : {M : Type 1} → statement M
+put-mediaclk-spec =
     tie.close
     (tie.spec
     read-media-clock-source-requires
     enum-known-source
-    answer-source-requires
+    put-ok-source-requires
     enum-known-refusal
-    answer-refusal-requires
+    put-no-requires
     same-length
     returns
     same-length-2

@@ -1,8 +1,8 @@
--- `answer::answer_ts_refclk` meets its contract: what was read settles the reply.
+-- `answer::put_ts_refclk` meets its contract: what was read is answered, accepted or refused.
 use Rattle.answer.proofs.Laws.{laws}
 use borrow.Author.Needs.{needs}
-use Rattle.answer.proofs.answer_ts_refclk.Statement.{statement}
-use Rattle.answer.proofs.answer_ts_refclk.Tie as tie
+use Rattle.answer.proofs.put_ts_refclk.Statement.{statement}
+use Rattle.answer.proofs.put_ts_refclk.Tie as tie
 
 read-reference-clock-requires : tie.Need-read-reference-clock-requires
 read-reference-clock-requires c κs = search needs
@@ -10,14 +10,14 @@ read-reference-clock-requires c κs = search needs
 enum-known-clock : tie.Need-enum-known-clock
 enum-known-clock c = search needs
 
-answer-clock-requires : tie.Need-answer-clock-requires
-answer-clock-requires c κs = search (needs, laws)
+put-ok-clock-requires : tie.Need-put-ok-clock-requires
+put-ok-clock-requires c κs = search (needs, laws)
 
 enum-known-refusal : tie.Need-enum-known-refusal
 enum-known-refusal c = search needs
 
-answer-refusal-requires : tie.Need-answer-refusal-requires
-answer-refusal-requires c κs = search needs
+put-no-requires : tie.Need-put-no-requires
+put-no-requires c κs = search needs
 
 same-length : tie.Need-same-length
 same-length c = search needs
@@ -31,15 +31,15 @@ same-length-2 c = search needs
 returns-2 : tie.Need-returns-2
 returns-2 c = search (needs, laws)
 
-pub answer-ts-refclk-spec : {M : Type 1} → statement M
-answer-ts-refclk-spec =
+pub put-ts-refclk-spec : {M : Type 1} → statement M
+put-ts-refclk-spec =
     tie.close
     (tie.spec
     read-reference-clock-requires
     enum-known-clock
-    answer-clock-requires
+    put-ok-clock-requires
     enum-known-refusal
-    answer-refusal-requires
+    put-no-requires
     same-length
     returns
     same-length-2

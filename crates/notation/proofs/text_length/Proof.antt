@@ -1,8 +1,8 @@
--- `answer::text_length` meets its contract: one law for each case of what was written.
-use Rattle.answer.proofs.Laws.{laws}
+-- `notation::text_length` meets its contract: one law for each case of what was written.
+use Rattle.notation.proofs.Laws.{laws}
 use borrow.Author.Needs.{needs}
-use Rattle.answer.proofs.text_length.Statement.{statement}
-use Rattle.answer.proofs.text_length.Tie as tie
+use Rattle.notation.proofs.text_length.Statement.{statement}
+use Rattle.notation.proofs.text_length.Tie as tie
 
 enum-known-wrote : tie.Need-enum-known-wrote
 enum-known-wrote c = search needs

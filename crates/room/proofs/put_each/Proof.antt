@@ -1,0 +1,52 @@
+-- `room::put_each` meets its contract: what the bytes passed put is put.
+use Rattle.room.proofs.Laws.{EachPut, laws}
+use Prim.Native.Nat.{_-_}
+use lib.ListN.{length}
+use borrow.Author.Needs.{needs}
+use Rattle.room.proofs.put_each.Statement.{statement}
+use Rattle.room.proofs.put_each.Tie as tie
+
+abbrev Inv-loop : tie.InvT-loop
+Inv-loop room₀ at src to₀ i₀ room to i = EachPut room₀ at src i to room
+
+abbrev μ-loop : tie.MeasureT-loop
+μ-loop room₀ at src to₀ i₀ room to i = length src - i
+
+loop-holds : tie.Need-loop-holds Inv-loop μ-loop
+loop-holds c = search (needs, laws)
+
+shared-slice-read-put-byte : tie.Need-shared-slice-read-put-byte Inv-loop μ-loop
+shared-slice-read-put-byte c = search (needs, laws)
+
+put-byte-requires : tie.Need-put-byte-requires Inv-loop μ-loop
+put-byte-requires c κs = search (needs, laws)
+
+add-i : tie.Need-add-i Inv-loop μ-loop
+add-i c = search (needs, laws)
+
+loop-less : tie.Need-loop-less Inv-loop μ-loop
+loop-less c = search (needs, laws)
+
+loop-again : tie.Need-loop-again Inv-loop μ-loop
+loop-again c = search (needs, laws)
+
+same-length : tie.Need-same-length Inv-loop μ-loop
+same-length c = search (needs, laws)
+
+returns : tie.Need-returns Inv-loop μ-loop
+returns c = search (needs, laws)
+
+pub put-each-spec : {M : Type 1} → statement M
+put-each-spec =
+    tie.close
+    (tie.spec
+    Inv-loop
+    μ-loop
+    loop-holds
+    shared-slice-read-put-byte
+    put-byte-requires
+    add-i
+    loop-less
+    loop-again
+    same-length
+    returns)
