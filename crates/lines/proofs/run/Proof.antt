@@ -43,6 +43,7 @@ part-end-line-end c = search (needs, laws)
 end-line-requires : tie.Need-end-line-requires Inv-loop μ-loop
 end-line-requires c κs = search (needs, laws)
 
+-- by this law alone: with the others beside it the search takes too many steps
 add-at : tie.Need-add-at Inv-loop μ-loop
 add-at c = search run-fits
 
