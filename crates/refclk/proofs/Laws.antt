@@ -27,11 +27,12 @@ use Rattle.clock.specs.declared.ReferenceClockRead.the-variants.{Accepted, Refu
 use Rattle.meaning.specs.Answer.{extensionOf, guarded}
 use Rattle.meaning.specs.Domain.{bare}
 use Rattle.meaning.specs.ReferenceClock.{ntpOf, ptpOf, clockOf, referenceClockOf, asReferenceClockRead, readReferenceClock, extensionClockOf}
-use Rattle.refclk.specs.Answers.{ntpAnswer, ptpAnswer}
-use Rattle.refclk.specs.declared.ntp.NtpRead.{NtpRead}
-use Rattle.refclk.specs.declared.ntp.NtpRead.the-variants as server
-use Rattle.refclk.specs.declared.ptp.PtpRead.{PtpRead}
-use Rattle.refclk.specs.declared.ptp.PtpRead.the-variants as source
+use Rattle.ntp.specs.Answers.{ntpAnswer}
+use Rattle.ntp.specs.declared.NtpRead.{NtpRead}
+use Rattle.ntp.specs.declared.NtpRead.the-variants as server
+use Rattle.ptp.specs.Answers.{ptpAnswer}
+use Rattle.ptp.specs.declared.PtpRead.{PtpRead}
+use Rattle.ptp.specs.declared.PtpRead.the-variants as source
 
 -- `read_extension`
 module _ (s : List ℕ) (i : ℕ) (ei : i ≡ before 61 s) where

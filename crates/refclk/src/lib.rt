@@ -1,11 +1,6 @@
 // What a ts-refclk value reads as: the reading rules in their order.
-mod ntp;
-mod ptp;
-
 ghost use mathlib.Core.Path.{_≡_};
 ghost use mathlib.Core.Bool.{false};
-ghost use Prim.Native.Nat.{_≤_};
-ghost use lib.ListN.{length};
 ghost use Rattle.text.specs.Word.{word, starts};
 ghost use Rattle.meaning.specs.Domain.{bare};
 ghost use Rattle.meaning.specs.ReferenceClock.{extensionClockOf, clockOf, asReferenceClockRead, readReferenceClock};
@@ -64,18 +59,17 @@ fn read_word(v: &[u8]) -> ReferenceClockRead
 }
 
 fn read_clock(v: &[u8]) -> ReferenceClockRead
-    requires { ⌜ length (now v) ≤ 1024 ⌝ }
     ensures { λ r. ⌜ r ≡ asReferenceClockRead (clockOf bare (now (v .entry))) ⌝ }
 {
     if text::has_prefix(v, b"ntp=") {
-        match ntp::read_ntp(&v[4..], 4) {
+        match ntp::read_ntp(&v[4..]) {
             ntp::NtpRead::Accepted(server) =>
                 return ReferenceClockRead::Accepted(ReferenceClock::Ntp(clock::Ntp { server })),
             ntp::NtpRead::Refused(r) => return ReferenceClockRead::Refused(r),
         }
     }
     if text::has_prefix(v, b"ptp=") {
-        match ptp::read_ptp(&v[4..], 4) {
+        match ptp::read_ptp(&v[4..]) {
             ptp::PtpRead::Accepted(source) =>
                 return ReferenceClockRead::Accepted(ReferenceClock::Ptp(source)),
             ptp::PtpRead::Refused(r) => return ReferenceClockRead::Refused(r),

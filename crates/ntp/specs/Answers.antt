@@ -1,0 +1,16 @@
+-- The paper's answer for every case of each answer of this crate.
+use Rattle.clock.specs.declared.OptPort.{OptPort}
+use Rattle.clock.specs.declared.NtpServerAddr.{NtpServerAddr}
+use Rattle.meaning.specs.Answer.{Answer, accepted, refused}
+use Rattle.ntp.specs.declared.PortRead.{PortRead}
+use Rattle.ntp.specs.declared.PortRead.the-variants as port
+use Rattle.ntp.specs.declared.NtpRead.{NtpRead}
+use Rattle.ntp.specs.declared.NtpRead.the-variants as ntp
+
+abbrev pub portAnswer : PortRead → Answer OptPort
+portAnswer (port.Accepted p) = accepted p
+portAnswer (port.Refused r) = refused r
+
+abbrev pub ntpAnswer : NtpRead → Answer NtpServerAddr
+ntpAnswer (ntp.Accepted s) = accepted s
+ntpAnswer (ntp.Refused r) = refused r

@@ -1,2 +1,0 @@
--- What the private readers answer, in the paper's terms.
-pub mod Answers
