@@ -40,9 +40,10 @@ use Rattle.clock.specs.declared.MediaClockSourceRead.{MediaClockSourceRead}
 use Rattle.clock.specs.declared.MediaClockSourceRead.the-variants as source
 use Rattle.meaning.specs.Answer.{Answer, accepted, refused, extensionOf, guarded}
 use Rattle.meaning.specs.MediaClock.{brokenNumber, directOf, streamOf, mediaClockOf, tagOf, idOf, taggedOf, sourceOf, mediaClockSourceOf, asMediaClockSourceRead, readMediaClockSource, withClock}
-use Rattle.mediaclk.specs.Answers.{directAnswer, idAnswer, streamAnswer, extensionAnswer, mediaClockAnswer, Fronts}
-use Rattle.mediaclk.specs.declared.direct.DirectRead.{DirectRead}
-use Rattle.mediaclk.specs.declared.direct.DirectRead.the-variants as direct
+use Rattle.direct.specs.Answers.{directAnswer}
+use Rattle.direct.specs.declared.DirectRead.{DirectRead}
+use Rattle.direct.specs.declared.DirectRead.the-variants as direct
+use Rattle.mediaclk.specs.Answers.{idAnswer, streamAnswer, extensionAnswer, mediaClockAnswer, Fronts}
 use Rattle.mediaclk.specs.declared.id.IdRead.{IdRead}
 use Rattle.mediaclk.specs.declared.id.IdRead.the-variants as id
 use Rattle.mediaclk.specs.declared.stream.StreamRead.{StreamRead}
@@ -53,7 +54,10 @@ use Rattle.mediaclk.specs.declared.MediaClockRead.{MediaClockRead}
 use Rattle.mediaclk.specs.declared.MediaClockRead.the-variants as media
 use Rattle.mediaclk.specs.declared.FrontRead.{FrontRead}
 use Rattle.mediaclk.specs.declared.FrontRead.the-variants as front
-use Rattle.mediaclk.proofs.DirectLaws.{room-behind}
+
+-- what stands behind the first k bytes ends where the whole text ends
+pub room-behind : (at k : ℕ) (s : List ℕ) → at + length s ≤ 1024 → k ≤ length s → at + k + length (rest k s) ≤ 1024
+room-behind at k s h l = simp (length-take, length-drop) (omega arith)
 
 -- `read_tag` and `read_id`
 module _ (src : Bool) (at : ℕ) (s : List ℕ) where

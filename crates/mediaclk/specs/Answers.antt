@@ -4,20 +4,12 @@ use mathlib.Core.Path.{_≡_}
 use mathlib.Core.List.{List}
 use lib.ListN.{length, drop}
 use Rattle.clock.specs.declared.Eui64.{Eui64}
-use Rattle.clock.specs.declared.OptRate.{OptRate}
-use Rattle.clock.specs.declared.Direct.{Direct}
 use Rattle.clock.specs.declared.MediaClockId.{MediaClockId}
 use Rattle.clock.specs.declared.MediaClockExt.{MediaClockExt}
 use Rattle.clock.specs.declared.MediaClock.{MediaClock}
 use Rattle.clock.specs.declared.MediaClockSource.{MediaClockSource}
 use Rattle.meaning.specs.Answer.{Answer, accepted, refused}
 use Rattle.meaning.specs.MediaClock.{mediaClockOf, withClock, sourceOf}
-use Rattle.mediaclk.specs.declared.direct.DenominatorRead.{DenominatorRead}
-use Rattle.mediaclk.specs.declared.direct.DenominatorRead.the-variants as denominator
-use Rattle.mediaclk.specs.declared.direct.RateRead.{RateRead}
-use Rattle.mediaclk.specs.declared.direct.RateRead.the-variants as rate
-use Rattle.mediaclk.specs.declared.direct.DirectRead.{DirectRead}
-use Rattle.mediaclk.specs.declared.direct.DirectRead.the-variants as direct
 use Rattle.mediaclk.specs.declared.id.IdRead.{IdRead}
 use Rattle.mediaclk.specs.declared.id.IdRead.the-variants as id
 use Rattle.mediaclk.specs.declared.stream.StreamRead.{StreamRead}
@@ -28,18 +20,6 @@ use Rattle.mediaclk.specs.declared.MediaClockRead.{MediaClockRead}
 use Rattle.mediaclk.specs.declared.MediaClockRead.the-variants as clock
 use Rattle.mediaclk.specs.declared.FrontRead.{FrontRead}
 use Rattle.mediaclk.specs.declared.FrontRead.the-variants as front
-
-abbrev pub denominatorAnswer : DenominatorRead → Answer ℕ
-denominatorAnswer (denominator.Accepted d) = accepted d
-denominatorAnswer (denominator.Refused r) = refused r
-
-abbrev pub rateAnswer : RateRead → Answer OptRate
-rateAnswer (rate.Accepted q) = accepted q
-rateAnswer (rate.Refused r) = refused r
-
-abbrev pub directAnswer : DirectRead → Answer Direct
-directAnswer (direct.Accepted d) = accepted d
-directAnswer (direct.Refused r) = refused r
 
 abbrev pub idAnswer : IdRead → Answer MediaClockId
 idAnswer (id.Accepted d) = accepted d

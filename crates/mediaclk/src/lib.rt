@@ -1,5 +1,4 @@
 // What a mediaclk value reads as: the reading rules in their order.
-mod direct;
 mod extension;
 mod id;
 mod stream;
@@ -11,7 +10,6 @@ ghost use lib.ListN.{length};
 ghost use Rattle.text.specs.Word.{word, same, starts};
 ghost use Rattle.meaning.specs.MediaClock.{mediaClockOf, withClock, sourceOf, asMediaClockSourceRead, readMediaClockSource};
 ghost use Rattle.mediaclk.specs.Answers.{mediaClockAnswer, Fronts};
-use crate::direct::DirectRead;
 use crate::extension::ExtensionRead;
 use crate::id::IdRead;
 use crate::stream::StreamRead;
@@ -20,6 +18,7 @@ use clock::MediaClockSource;
 use clock::MediaClockSourceRead;
 use clock::OptId;
 use clock::Refusal;
+use direct::DirectRead;
 
 enum MediaClockRead {
     Accepted(MediaClock),
@@ -61,7 +60,8 @@ fn read_media_clock(p: &[u8], at: usize) -> MediaClockRead
         return MediaClockRead::Accepted(MediaClock::Sender);
     }
     if text::has_prefix(p, b"direct") {
-        match direct::read_direct(&p[6..], at + 6) {
+        let start = (at + 6) as u32;
+        match direct::read_direct(&p[6..], start) {
             DirectRead::Accepted(d) => return MediaClockRead::Accepted(MediaClock::Direct(d)),
             DirectRead::Refused(r) => return MediaClockRead::Refused(r),
         }

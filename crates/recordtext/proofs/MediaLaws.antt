@@ -2,7 +2,7 @@
 use Prim.Native.Nat.{ℕ, _+_, _*_}
 use mathlib.Core.Path.{_≡_}
 use mathlib.Core.List.{List, [], _∷_, _++_}
-use mathlib.Core.Bool.{Bool, true, false, cond, _&&_, not}
+use mathlib.Core.Bool.{Bool, true, false, cond}
 use native.Mathlib.Omega.{arith}
 use lib.ListN.{length}
 use Rattle.text.specs.declared.Place.{Place}
@@ -26,28 +26,8 @@ use Rattle.number.specs.Decimal.{decimal}
 use Rattle.eui64.specs.Eui64.{eui64Text}
 use Rattle.meaning.specs.Meaning.{srcTag, plainTag, direct, valueMeans, offsetMeans, rateMeans, idMeans, mediaMeans, mediaMeaning}
 use Rattle.meaning.specs.Text.{valueText, tagText, idText, offsetText, rateText, mediaText, sourceMeaningText, mediaClockSourceText}
-use Rattle.meaning.specs.Inside.{inside, valueInside, idInside, mediaInside, mediaClockSourceInside}
 use Rattle.room.specs.Put.{Put}
 use Rattle.room.proofs.Laws.{put-none, put-then, put-wider}
-use Rattle.recordtext.proofs.PartsLaws.{and-outside, and-second}
-
--- mediaclk: `is_id_inside`, `is_clock_inside`, `is_source_inside`
-module _ (v : List ℕ) where
-  pub id-inside-some : (x : OptId) (d : MediaClockId) (r : Bool) → x ≡ SomeId d → r ≡ inside v (d .tag) → r ≡ idInside v x
-  id-inside-some x d r e f = rw e f
-
-  pub clock-inside-ext : (c : MediaClock) (x : MediaClockExt) (r : Bool) → c ≡ media.Ext x → r ≡ (inside v (x .name) && valueInside v (x .value))
-      → r ≡ mediaInside v c
-  clock-inside-ext c x r e f = rw e f
-
-  module _ (s : MediaClockSource) where
-    pub source-inside-not : (r : Bool) → r ≡ idInside v (s .id) → not r ≡ true → false ≡ mediaClockSourceInside v s
-    unfolding mediaClockSourceInside
-    source-inside-not r e f = and-outside (mediaInside v (s .clock)) r e f
-
-    pub source-inside-clock : (r q : Bool) → r ≡ idInside v (s .id) → not r ≡ false → q ≡ mediaInside v (s .clock) → q ≡ mediaClockSourceInside v s
-    unfolding mediaClockSourceInside
-    source-inside-clock r q e f g = and-second r q e f g
 
 -- `put_tag`, `put_id`
 module _ (v : List ℕ) {l : List ℕ} {at : ℕ} where
@@ -120,10 +100,6 @@ module _ (v : List ℕ) {l : List ℕ} {at last : ℕ} {r : List ℕ} where
   source-put s f g = put-wider (put-then f g) (omega arith)
 
 pub ruleset laws = (
-  id-inside-some,
-  clock-inside-ext,
-  source-inside-not,
-  source-inside-clock,
   tag-src,
   tag-plain,
   id-none,

@@ -2,7 +2,6 @@
 use Prim.Native.Nat.{ℕ, _+_, _*_, _≤_, _<_}
 use mathlib.Core.Path.{_≡_}
 use mathlib.Core.List.{List, [], _∷_, _++_}
-use mathlib.Core.Bool.{Bool, true, _&&_}
 use mathlib.Core.Option.{some}
 use native.Mathlib.Omega.{arith}
 use lib.ListN.{length}
@@ -37,62 +36,8 @@ use Rattle.clock.specs.declared.ReferenceClock.the-variants as clock
 use Rattle.meaning.specs.Domain.{bare, bareText}
 use Rattle.meaning.specs.Meaning.{ptp, versionMeans, domainMeans, optDomainMeans, serverMeans, portMeans, ntpMeans, valueMeans, privateMeans, refMeaning}
 use Rattle.meaning.specs.Text.{versionText, domainText, serverText, hostText, valueText, refMeaningText, referenceClockText}
-use Rattle.meaning.specs.Inside.{inside, versionInside, domainInside, optDomainInside, serverInside, ntpInside, valueInside, referenceClockInside}
 use Rattle.room.specs.Put.{Put}
 use Rattle.room.proofs.Laws.{put-none, put-then, put-wider}
-use Rattle.recordtext.proofs.PartsLaws.{and-outside, and-second}
-
--- the inside tests
-module _ (v : List ℕ) (r : Bool) where
-  pub version-inside-ext : (x : PtpVersion) (p : Place) → x ≡ version.Ext p → r ≡ inside v p → r ≡ versionInside v x
-  version-inside-ext x p e f = rw e f
-
-  pub domain-inside-name : (x : PtpDomain) (p : Place) → x ≡ DomainName p → r ≡ inside v p → r ≡ domainInside v x
-  domain-inside-name x p e f = rw e f
-
-  pub domain-inside-some : (x : OptDomain) (d : PtpDomain) → x ≡ SomeDomain d → r ≡ domainInside v d → r ≡ optDomainInside v x
-  domain-inside-some x d e f = rw e f
-
-  pub server-inside-gmid : (x : PtpServer) (g : Eui64) (d : OptDomain) → x ≡ source.GmidDomain g d → r ≡ optDomainInside v d → r ≡ serverInside v x
-  server-inside-gmid x g d e f = rw e f
-
-  pub ntp-inside-host : (x : NtpServerAddr) (p : Place) (o : OptPort) → x ≡ server.HostPort p o → r ≡ inside v p → r ≡ ntpInside v x
-  ntp-inside-host x p o e f = rw e f
-
-  module _ (c : ReferenceClock) where
-    pub inside-ntp : (n : Ntp) → c ≡ clock.Ntp n → r ≡ ntpInside v (n .server) → r ≡ referenceClockInside v c
-    unfolding referenceClockInside
-    inside-ntp n e f = rw e f
-
-    pub inside-ptp : (p : Ptp) → c ≡ clock.Ptp p → r ≡ (versionInside v (p .version) && serverInside v (p .server)) → r ≡ referenceClockInside v c
-    unfolding referenceClockInside
-    inside-ptp p e f = rw e f
-
-    pub inside-ext : (x : ClockSourceExt) → c ≡ clock.Ext x → r ≡ (inside v (x .name) && valueInside v (x .value)) → r ≡ referenceClockInside v c
-    unfolding referenceClockInside
-    inside-ext x e f = rw e f
-
--- a clock that has no place
-module _ (v : List ℕ) (c : ReferenceClock) where
-  pub inside-gps : c ≡ clock.Gps → true ≡ referenceClockInside v c
-  unfolding referenceClockInside
-  inside-gps e = rw e
-
-  pub inside-gal : c ≡ clock.Gal → true ≡ referenceClockInside v c
-  unfolding referenceClockInside
-  inside-gal e = rw e
-
-  pub inside-glonass : c ≡ clock.Glonass → true ≡ referenceClockInside v c
-  unfolding referenceClockInside
-  inside-glonass e = rw e
-
-  pub inside-local : c ≡ clock.Local → true ≡ referenceClockInside v c
-  unfolding referenceClockInside
-  inside-local e = rw e
-
-  pub inside-private : (p : PrivateSource) → c ≡ clock.Private p → true ≡ referenceClockInside v c
-  unfolding referenceClockInside
-  inside-private p e = rw e
 
 -- `put_port`, `put_host_and_port`, `put_host`
 module _ {l : List ℕ} {at last : ℕ} {r : List ℕ} where
@@ -257,21 +202,6 @@ module _ (v : List ℕ) {l : List ℕ} {at last : ℕ} {r : List ℕ} where
     clock-ext x e f = rw e (put-wider f (omega arith))
 
 pub ruleset laws = (
-  and-outside,
-  and-second,
-  version-inside-ext,
-  domain-inside-name,
-  domain-inside-some,
-  server-inside-gmid,
-  ntp-inside-host,
-  inside-ntp,
-  inside-ptp,
-  inside-ext,
-  inside-gps,
-  inside-gal,
-  inside-glonass,
-  inside-local,
-  inside-private,
   port-put,
   host-bracketed,
   host-plain,

@@ -1,4 +1,4 @@
-// The text of a record put into lent room, over the value that its places point into, and whether these places lie inside it.
+// The text of a record put into lent room, over the value that its places point into.
 pub mod media;
 mod parts;
 pub mod reference;

@@ -1,13 +1,10 @@
-// The text of a mediaclk record, and whether its places lie inside the value. A local that holds a place in the room is named by what
-// is put there.
-ghost use mathlib.Core.Path.{_≡_};
+// The text of a mediaclk record. A local that holds a place in the room is named by what is put there.
 ghost use mathlib.Core.Bool.{cond};
 ghost use Prim.Native.Nat.{_+_, _*_, _≤_};
 ghost use lib.ListN.{length};
 ghost use Rattle.text.specs.Place.{bytesAt};
 ghost use Rattle.meaning.specs.Meaning.{srcTag, plainTag, direct, offsetMeans, rateMeans, idMeans, mediaMeans};
 ghost use Rattle.meaning.specs.Text.{offsetText, rateText, idText, tagText, mediaText, mediaClockSourceText};
-ghost use Rattle.meaning.specs.Inside.{idInside, mediaInside, mediaClockSourceInside};
 ghost use Rattle.room.specs.Put.{Put};
 use crate::parts;
 use clock::MediaClock;
@@ -16,44 +13,6 @@ use clock::OptId;
 use clock::OptOffset;
 use clock::OptRate;
 use text::Place;
-
-fn is_id_inside(value: &[u8], id: OptId) -> bool
-    ensures { λ r. ⌜ r ≡ idInside (now (value .entry)) id ⌝ }
-{
-    match id {
-        OptId::NoId => true,
-        OptId::SomeId(d) => {
-            let tag = d.tag;
-            parts::is_inside(value, tag)
-        }
-    }
-}
-
-fn is_clock_inside(value: &[u8], clock: MediaClock) -> bool
-    ensures { λ r. ⌜ r ≡ mediaInside (now (value .entry)) clock ⌝ }
-{
-    match clock {
-        MediaClock::Sender => true,
-        MediaClock::Direct(_) => true,
-        MediaClock::Ieee1722StreamId(_) => true,
-        MediaClock::Ext(e) => {
-            let name = e.name;
-            let given = e.value;
-            parts::is_extension_inside(value, name, given)
-        }
-    }
-}
-
-pub fn is_source_inside(value: &[u8], source: MediaClockSource) -> bool
-    ensures { λ r. ⌜ r ≡ mediaClockSourceInside (now (value .entry)) source ⌝ }
-{
-    let id = source.id;
-    let clock = source.clock;
-    if !is_id_inside(value, id) {
-        return false;
-    }
-    is_clock_inside(value, clock)
-}
 
 // `src:` where it is there, and the tag.
 fn put_tag(room: &mut [u8], at: usize, value: &[u8], src: bool, tag: Place) -> usize

@@ -33,7 +33,7 @@ pub fn write_reference_clock(clock: ReferenceClock, value: &[u8], room: &mut [u8
     if MOST_BYTES < n {
         return Wrote::Refused(WriteRefusal::Value(Refusal::new(1, MOST_BYTES, n - MOST_BYTES)));
     }
-    if !reference::is_clock_inside(value, clock) {
+    if !inside::reference::is_clock_inside(value, clock) {
         return Wrote::Refused(WriteRefusal::Outside);
     }
     // a room that is long enough for any record over this value needs no measuring
@@ -66,7 +66,7 @@ pub fn write_media_clock_source(source: MediaClockSource, value: &[u8], room: &m
     if MOST_BYTES < n {
         return Wrote::Refused(WriteRefusal::Value(Refusal::new(1, MOST_BYTES, n - MOST_BYTES)));
     }
-    if !media::is_source_inside(value, source) {
+    if !inside::media::is_source_inside(value, source) {
         return Wrote::Refused(WriteRefusal::Outside);
     }
     // a room that is long enough for any record over this value needs no measuring

@@ -19,6 +19,12 @@ slice-aggregate-has-prefix c = search needs
 has-prefix-requires : tie.Need-has-prefix-requires
 has-prefix-requires c κs = search needs
 
+add-start : tie.Need-add-start
+add-start c = search needs
+
+cast-start : tie.Need-cast-start
+cast-start c = search (needs, laws)
+
 sub-read-direct : tie.Need-sub-read-direct
 sub-read-direct c = search (needs, laws)
 
@@ -28,11 +34,8 @@ part-read-direct-start c = search (needs, laws)
 part-read-direct-end : tie.Need-part-read-direct-end
 part-read-direct-end c = search needs
 
-add-read-direct : tie.Need-add-read-direct
-add-read-direct c = search needs
-
 read-direct-requires : tie.Need-read-direct-requires
-read-direct-requires c κs = search (needs, laws)
+read-direct-requires c κs = search needs
 
 enum-known-d : tie.Need-enum-known-d
 enum-known-d c = search needs
@@ -61,10 +64,11 @@ read-media-clock-spec =
     returns
     slice-aggregate-has-prefix
     has-prefix-requires
+    add-start
+    cast-start
     sub-read-direct
     part-read-direct-start
     part-read-direct-end
-    add-read-direct
     read-direct-requires
     enum-known-d
     returns-2
