@@ -32,8 +32,11 @@ use Rattle.direct.specs.declared.RateRead.{RateRead}
 use Rattle.direct.specs.declared.RateRead.the-variants as rated
 
 -- what stands behind the first k bytes ends where the whole text ends
+pub rest-end : (at k : ℕ) (s : List ℕ) → k ≤ length s → at + k + length (rest k s) ≡ at + length s
+rest-end at k s l = simp (length-take, length-drop) (omega arith)
+
 pub room-behind : (at k : ℕ) (s : List ℕ) → at + length s < 2 ^ 64 → k ≤ length s → at + k + length (rest k s) < 2 ^ 64
-room-behind at k s h l = simp (length-take, length-drop) (omega arith)
+room-behind at k s h l = omega (arith, rest-end at k s l)
 
 -- `read_denominator`
 module _ (at : ℕ) (s : List ℕ) (x : Number) (ex : x ≡ numberOf most32 s) where

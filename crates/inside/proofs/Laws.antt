@@ -36,7 +36,8 @@ use Rattle.clock.specs.declared.MediaClockExt.{MediaClockExt}
 use Rattle.clock.specs.declared.MediaClock.{MediaClock}
 use Rattle.clock.specs.declared.MediaClock.the-variants as media
 use Rattle.clock.specs.declared.MediaClockSource.{MediaClockSource}
-use Rattle.meaning.specs.Inside.{inside, valueInside, versionInside, domainInside, optDomainInside, serverInside, ntpInside, referenceClockInside, idInside, mediaInside, mediaClockSourceInside}
+use Rattle.meaning.specs.Inside.{inside, valueInside, versionInside, domainInside, optDomainInside, serverInside, ntpInside, referenceClockInside}
+use Rattle.meaning.specs.Inside.{idInside, mediaInside, mediaClockSourceInside}
 
 -- `is_inside`
 module _ (v : List ℕ) (p : Place) where

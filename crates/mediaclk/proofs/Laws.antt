@@ -39,7 +39,9 @@ use Rattle.clock.specs.declared.MediaClock.the-variants as clock
 use Rattle.clock.specs.declared.MediaClockSourceRead.{MediaClockSourceRead}
 use Rattle.clock.specs.declared.MediaClockSourceRead.the-variants as source
 use Rattle.meaning.specs.Answer.{Answer, accepted, refused, extensionOf, guarded}
-use Rattle.meaning.specs.MediaClock.{brokenNumber, directOf, streamOf, mediaClockOf, tagOf, idOf, taggedOf, sourceOf, mediaClockSourceOf, asMediaClockSourceRead, readMediaClockSource, withClock}
+use Rattle.meaning.specs.MediaClock.{brokenNumber, directOf, streamOf, mediaClockOf, tagOf, idOf, taggedOf, withClock, sourceOf}
+use Rattle.meaning.specs.MediaClock.{mediaClockSourceOf, asMediaClockSourceRead, readMediaClockSource}
+use Rattle.direct.proofs.Laws.{rest-end}
 use Rattle.direct.specs.Answers.{directAnswer}
 use Rattle.direct.specs.declared.DirectRead.{DirectRead}
 use Rattle.direct.specs.declared.DirectRead.the-variants as direct
@@ -55,9 +57,8 @@ use Rattle.mediaclk.specs.declared.MediaClockRead.the-variants as media
 use Rattle.mediaclk.specs.declared.FrontRead.{FrontRead}
 use Rattle.mediaclk.specs.declared.FrontRead.the-variants as front
 
--- what stands behind the first k bytes ends where the whole text ends
 pub room-behind : (at k : ℕ) (s : List ℕ) → at + length s ≤ 1024 → k ≤ length s → at + k + length (rest k s) ≤ 1024
-room-behind at k s h l = simp (length-take, length-drop) (omega arith)
+room-behind at k s h l = omega (arith, rest-end at k s l)
 
 -- `read_tag` and `read_id`
 module _ (src : Bool) (at : ℕ) (s : List ℕ) where

@@ -60,6 +60,7 @@ fn read_media_clock(p: &[u8], at: usize) -> MediaClockRead
         return MediaClockRead::Accepted(MediaClock::Sender);
     }
     if text::has_prefix(p, b"direct") {
+        // it fits, since a value has at most 1,024 bytes here
         let start = (at + 6) as u32;
         match direct::read_direct(&p[6..], start) {
             DirectRead::Accepted(d) => return MediaClockRead::Accepted(MediaClock::Direct(d)),
