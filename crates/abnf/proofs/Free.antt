@@ -5,8 +5,9 @@ use mathlib.Core.Bool.{Bool, true, false, _&&_, and-false}
 use mathlib.Core.List.{List, [], _∷_}
 use lib.Dec.{leb}
 use Rattle.text.proofs.Bools.{by-bool, clash}
-use Rattle.abnf.specs.Rule.{Rule, nothing, range, _or_, _then_, times, upto}
+use Rattle.abnf.specs.Rule.{Rule, nothing, range, _or_, _then_, _thenMany_, times, upto}
 use Rattle.abnf.proofs.Rules.{Free, then-none}
+use Rattle.abnf.proofs.Many.{many-none}
 
 -- no text of p has a c in it, as a record that a search can look for
 pub record Lacks (c : ℕ) (p : Rule) : Type 0 where
@@ -53,7 +54,18 @@ module _ {c : ℕ} where
   lacks-upto zero f = lacks-nothing
   lacks-upto (suc n) f = lacks-or lacks-nothing (lacks-then f (lacks-upto n f))
 
-pub ruleset free-laws = (lacks-nothing, lacks-range, lacks-then, lacks-or, lacks-times, lacks-upto)
+  free-many : (r p : Rule) → Free c r → Free c p → Free c (r thenMany p)
+  unfolding _thenMany_
+  free-many r p f g [] t =
+      rw (many-none p (λ u. p (c ∷ u)) (λ u. g [] u) t, and-false (r [])) (many-none p (λ u. r (c ∷ u)) (λ u. f [] u) t)
+  free-many r p f g (x ∷ s) t =
+      rw (free-many (λ u. p (x ∷ u)) p (λ u v. g (x ∷ u) v) g s t, and-false (r []))
+      (free-many (λ u. r (x ∷ u)) p (λ u v. f (x ∷ u) v) g s t)
+
+  pub lacks-many : {r p : Rule} → Lacks c r → Lacks c p → Lacks c (r thenMany p)
+  lacks-many {r} {p} f g = record { free = free-many r p (f .free) (g .free) }
+
+pub ruleset free-laws = (lacks-nothing, lacks-range, lacks-then, lacks-or, lacks-times, lacks-upto, lacks-many)
 
 -- every byte of a text passes a test
 pub data All (ok : ℕ → Bool) : List ℕ → Type 0 where

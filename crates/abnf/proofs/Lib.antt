@@ -1,6 +1,6 @@
 pub mod Rules
-pub mod Free
 pub mod Many
+pub mod Free
 pub mod Longest
 pub mod Places
 pub mod Sizes

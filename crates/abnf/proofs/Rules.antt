@@ -1,5 +1,5 @@
 -- Laws of the rules: a sequence distributes over a choice and is associative; a sequence whose first part cannot hold the separator behind it is
--- a cut at the first separator; a text of a sequence is cut in two. Assumes nothing.
+-- a cut at the first separator; a text of a sequence is cut in two, and two texts are joined to one. Assumes nothing.
 use Prim.Native.Nat.{ℕ}
 use mathlib.Core.Path.{_≡_, refl, sym, ap, _∙_}
 use mathlib.Core.Bool.{Bool, true, false, _&&_, _||_, cond, and-true, and-false, or-false, and-assoc, or-assoc, and-or-distrib-left, and-or-distrib-right}
@@ -7,7 +7,7 @@ use mathlib.Core.List.{List, [], _∷_, _++_}
 use native.Mathlib.Omega.{arith}
 use lib.Dec.{leb, eqb}
 use borrow.Author.Tests.{le-leb, eq-eqb, eqb-true, leb-true}
-use Rattle.text.proofs.Bools.{by-bool, clash, both-ways, both, and-left, and-right}
+use Rattle.text.proofs.Bools.{by-bool, clash, both-ways, both, and-left, and-right, or-left, or-right}
 use Rattle.abnf.specs.Rule.{Rule, nothing, range, byte, _then_}
 
 -- what the laws of sequences come to at a byte: tests alone
@@ -214,3 +214,17 @@ then-split p q (x ∷ s) h =
     (λ e.
     let c = then-split (λ t. p (x ∷ t)) q s (simp e at h) in
     record { front = x ∷ c .front; back = c .back; is = ap (λ (l : List ℕ). x ∷ l) (c .is); first = c .first; second = c .second })
+
+-- and a text of p and one of q are joined to a text of the sequence
+pub then-join : (p q : Rule) (x y : List ℕ) → p x ≡ true → q y ≡ true → (p then q) (x ++ y) ≡ true
+unfolding _then_
+then-join p q [] [] h k = both h k
+then-join p q [] (b ∷ y) h k = or-left (((λ t. p (b ∷ t)) then q) y) (both h k)
+then-join p q (a ∷ x) y h k = or-right (p [] && q (a ∷ (x ++ y))) (then-join (λ t. p (a ∷ t)) q x y h k)
+
+-- where each text of p is one of u, and each of q one of v, so it is of the sequences
+pub then-within : (p q u v : Rule) → ((s : List ℕ) → p s ≡ true → u s ≡ true) → ((s : List ℕ) → q s ≡ true → v s ≡ true)
+    → (s : List ℕ) → (p then q) s ≡ true → (u then v) s ≡ true
+then-within p q u v f g s h =
+    let k = then-split p q s h in
+    rw (k .is) at (then-join u v (k .front) (k .back) (f (k .front) (k .first)) (g (k .back) (k .second)))

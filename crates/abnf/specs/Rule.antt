@@ -64,6 +64,10 @@ _thenMany_ r p (x ∷ s) = (r [] && _thenMany_ (λ t. p (x ∷ t)) p s) || _then
 abbrev pub many : Rule → Rule
 many p = nothing thenMany p
 
+-- 1*p: one or more texts of p
+abbrev pub oneOrMore : Rule → Rule
+oneOrMore p = p thenMany p
+
 -- how many bytes the longest front of a text has that is a text of p: 0 where there is none, or none but the empty one
 unfoldable pub longest : Rule → List ℕ → ℕ
 longest p [] = 0

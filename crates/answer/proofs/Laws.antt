@@ -1,5 +1,5 @@
 -- One law for each way out of this crate's functions, and the two by which a caller uses its contract. Assumes nothing.
-use Prim.Native.Nat.{ℕ, _+_, _*_, _≤_, _<_}
+use Prim.Native.Nat.{ℕ, _≤_, _<_}
 use mathlib.Core.Path.{_≡_, refl, sym, ap, _∙_}
 use mathlib.Core.List.{List, [], _∷_, _++_, append-assoc}
 use mathlib.Core.Bool.{Bool, true, false, not}
@@ -24,7 +24,7 @@ use Rattle.meaning.specs.ReferenceClock.{readReferenceClock}
 use Rattle.meaning.specs.MediaClock.{readMediaClockSource}
 use Rattle.meaning.specs.Text.{referenceClockText, mediaClockSourceText}
 use Rattle.room.specs.Put.{Put}
-use Rattle.room.proofs.Laws.{put-then, put-wider, put-front}
+use Rattle.room.proofs.Laws.{put-then, put-wider, put-length, put-front}
 use Rattle.report.specs.declared.Kind.{Kind}
 use Rattle.report.specs.declared.Kind.the-variants.{Accepted, Refused, Other, Long}
 use Rattle.report.specs.Reply.{Reply, reply, okReply, noReply, tsRefclkReply, mediaclkReply, replyTo}
@@ -51,7 +51,7 @@ module _ {x : Reply} {room after : List ℕ} {r : Answered} (p : Answers x room 
   pub answer-kept : length room < r .len → after ≡ room
   answer-kept h = p .leaves ∙ front-not (x .says) room (omega (arith, p .len))
 
-abbrev answered : Kind → ℕ → Answered
+abbrev pub answered : Kind → ℕ → Answered
 answered k n = record { kind = k; len = n }
 
 -- `say`
@@ -83,14 +83,11 @@ refusal-put x l m n o r a b c d p q s t =
 module _ (r : Refusal) (l m : List ℕ) (n : ℕ) (e : length l ≡ 66) (p : Put 66 l 0 (noReply r .says) n m) where
   refusal-text : take n m ≡ noReply r .says
   refusal-text =
-      let k : length (noReply r .says) ≡ n = omega (arith, p .place) in
-      ap (take n) (put-front p (omega (arith, p .bound))) ∙ take-at (noReply r .says) (drop (length (noReply r .says)) l) n k
+      let k : n ≡ length (noReply r .says) = put-length p (omega arith) in
+      ap (take n) (put-front p (omega (arith, p .bound))) ∙ take-at (noReply r .says) (drop (length (noReply r .says)) l) n (sym k)
 
   pub refusal-count : n ≡ length (take n m)
-  refusal-count = rw refusal-text (omega (arith, p .place))
-
-  pub refusal-asks : length (take n m) ≤ 65536
-  refusal-asks = rw refusal-text (omega (arith, p .bound))
+  refusal-count = rw refusal-text (put-length p (omega arith))
 
   pub refusal-said : (room : List ℕ) (x : Answered) (after : List ℕ) → Answers (replyOf Refused (take n m)) room x after
       → Answers (noReply r) room x after
@@ -106,31 +103,19 @@ no-put r room next after p = record { kind = refl; put = put-wider p (omega arit
 -- `put_ok_clock` and `put_ok_source`
 module _ {v t : List ℕ} {inside : Bool} (can : Writable v inside t) {most at end : ℕ} {room l m : List ℕ}
     (p : Put 3 room 0 (word "ok ") at l) (q : Put most l at t end m) where
-  ok-asks : end + 1 ≤ 65536
-  ok-asks = omega (arith, p .place, q .place, can .longer, can .short)
-
   pub ok-put : (len : ℕ) (after : List ℕ) → Put 1 m end (10 ∷ []) len after → Puts (okReply t) room (answered Accepted len) after
   ok-put len after r =
       let all = put-then (put-then p q) r in
       record {
         kind = refl;
-        put = record { place = all .place; bound = simp length-append (omega (arith, can .longer, can .short)); bytes = all .bytes };
+        put =
+            record {
+              place = all .place;
+              bound = simp length-append (omega (arith, can .longer, can .short));
+              bytes = all .bytes;
+              reach = all .reach;
+            };
       }
-
-module _ (v : List ℕ) {at : ℕ} {room l : List ℕ} (p : Put 3 room 0 (word "ok ") at l) where
-  module _ (c : ReferenceClock) (e : ref.Accepted c ≡ readReferenceClock v) where
-    pub clock-asks : at + (2 * length v + 55) ≤ 65536
-    clock-asks = omega (arith, p .place, ref-writable v c e .short)
-
-    pub clock-end : (end : ℕ) (m : List ℕ) → Put (2 * length v + 55) l at (referenceClockText v c) end m → end + 1 ≤ 65536
-    clock-end end m q = ok-asks (ref-writable v c e) p q
-
-  module _ (s : MediaClockSource) (e : media.Accepted s ≡ readMediaClockSource v) where
-    pub source-asks : at + (3 * length v + 52) ≤ 65536
-    source-asks = omega (arith, p .place, media-writable v s e .short)
-
-    pub source-end : (end : ℕ) (m : List ℕ) → Put (3 * length v + 52) l at (mediaClockSourceText v s) end m → end + 1 ≤ 65536
-    source-end end m q = ok-asks (media-writable v s e) p q
 
 -- `put_ts_refclk`
 module _ (v : List ℕ) (y : ReferenceClockRead) (ey : y ≡ readReferenceClock v) where
@@ -188,7 +173,7 @@ module _ (x : Reply) (room after : List ℕ) (r : Answered) (p : Puts x room r a
   put-answers h =
       record {
         kind = p .kind;
-        len = omega (arith, p .put .place);
+        len = put-length (p .put) (omega arith);
         leaves = put-front (p .put) h ∙ sym (front-fits (x .says) room h);
       }
 
@@ -253,16 +238,11 @@ pub ruleset laws = (
   number-put,
   refusal-put,
   refusal-count,
-  refusal-asks,
   refusal-said,
   no-put,
   ref-writable,
   media-writable,
   ok-put,
-  clock-asks,
-  clock-end,
-  source-asks,
-  source-end,
   ref-read,
   ref-ok,
   ref-no,

@@ -17,3 +17,9 @@ pub record Answers (reply : Reply) (room : List ℕ) (r : Answered) (after : Lis
   pub kind : r .kind ≡ reply .kind
   pub len : r .len ≡ length (reply .says)
   pub leaves : after ≡ withFront (reply .says) room
+
+-- no second answer meets it: one kind and length, and one room. `proofs/Settled.antt` proves this
+abbrev pub AnswersSettled : Type 0
+AnswersSettled =
+    (reply : Reply) (room : List ℕ) (r other : Answered) (after later : List ℕ)
+    → Answers reply room r after → Answers reply room other later → (r ≡ other) × (after ≡ later)

@@ -1,7 +1,7 @@
 // What is printed for one line, put at the front of lent room: the text of an accepted value, the refusal of a refused one, or a fixed word.
 ghost use mathlib.Core.Path.{_≡_};
 ghost use mathlib.Core.List.{[], _∷_, _++_};
-ghost use Prim.Native.Nat.{_+_, _≤_};
+ghost use Prim.Native.Nat.{_≤_};
 ghost use lib.ListN.{length};
 ghost use Rattle.clock.specs.declared.ReferenceClockRead.the-variants as ref;
 ghost use Rattle.clock.specs.declared.MediaClockSourceRead.the-variants as media;
@@ -37,7 +37,6 @@ pub struct Answered {
 
 // A text that is known, its LF included.
 fn say(kind: Kind, text: &[u8], room: &mut [u8]) -> Answered
-    requires { ⌜ length (now text) ≤ 65536 ⌝ }
     ensures { λ r. ⌜ Answers (replyOf kind (now (text .entry))) (now (room .entry)) r (now (room .exit)) ⌝ }
 {
     let len = text.len();
@@ -59,7 +58,6 @@ fn put_known(kind: Kind, text: &[u8], room: &mut [u8]) -> Answered
 
 // A number, and the byte that stands behind it.
 fn put_number(room: &mut [u8], at: usize, n: u64, behind: u8) -> usize
-    requires { ⌜ at + 21 ≤ 65536 ⌝ }
     ensures { λ r. ⌜ Put 21 (now (room .entry)) at (decimal n ++ behind ∷ []) r (now (room .exit)) ⌝ }
 {
     let to = room::put_decimal_u64(room, at, n);

@@ -1,5 +1,6 @@
 -- The paper's answer for every case of each answer of this crate.
 use Prim.Native.Nat.{ℕ}
+use mathlib.Core.Path.{_≡_}
 use Rattle.clock.specs.declared.OptRate.{OptRate}
 use Rattle.clock.specs.declared.Direct.{Direct}
 use Rattle.meaning.specs.Answer.{Answer, accepted, refused}
@@ -21,3 +22,7 @@ rateAnswer (rate.Refused r) = refused r
 abbrev pub directAnswer : DirectRead → Answer Direct
 directAnswer (direct.Accepted d) = accepted d
 directAnswer (direct.Refused r) = refused r
+
+-- no two answers stand for one of the paper's: one alone meets the contract of `read_direct`. `proofs/Settled.antt` proves it
+abbrev pub DirectSettled : Type 0
+DirectSettled = (q r : DirectRead) → directAnswer q ≡ directAnswer r → q ≡ r

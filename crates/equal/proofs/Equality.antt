@@ -1,7 +1,7 @@
--- Equal records mean the same: a meaning comes back from what it says. Assumes nothing.
+-- What the code's shape says decides equality: a meaning comes back from what it says. Assumes nothing.
 use Prim.Native.Nat.{ℕ, zero, suc}
 use mathlib.Core.Path.{_≡_, refl, sym, ap, _∙_}
-use mathlib.Core.List.{List, []}
+use mathlib.Core.List.{List}
 use mathlib.Core.Bool.{Bool, true, cond, _&&_}
 use mathlib.Core.Option.{Option, none, some}
 use lib.Dec.{eqb}
@@ -12,12 +12,14 @@ use Rattle.text.proofs.Cuts.{same-eq, same-refl}
 use Rattle.meaning.specs.Meaning.{Version, Server, Ratio, Tag, RefMeaning, MediaMeaning, SourceMeaning}
 use Rattle.meaning.specs.Meaning as means
 use Rattle.equal.specs.Said.{Said, says, versionKind, versionName, serverSays, clockSays, tagKind, tagBytes, mediaSays, sourceSays}
-use Rattle.equal.specs.Alike.{Hosts, sameNumbers, sameBehind, alikeSaid, alike, sameSource, hostsAlike}
-use Rattle.equal.specs.Equality.{ClocksEqual, SourcesEqual, Equivalence, Classes}
+use Rattle.equal.specs.Said.{sameNumbers, sameBehind, alikeSaid}
+use Rattle.equal.specs.Decides.{Decides}
+use Rattle.equal.specs.Alike.{Hosts, hostsAlike, OneClock, equal, servers, alike}
+use Rattle.equal.specs.Equality.{Equivalence, Yes, Classes, AlikeDecides}
 
--- what is said, without the head
-abbrev behind : Said → Said
-behind x = says (x .kind) (x .form) (x .first) (x .second) (x .third) [] (x .name) (x .value)
+-- what is said, with another head
+abbrev headed : List ℕ → Said → Said
+headed h x = says (x .kind) (x .form) (x .first) (x .second) (x .third) h (x .name) (x .value)
 
 behind-self : (x : Said) → sameBehind x x ≡ true
 unfolding sameBehind sameNumbers
@@ -30,47 +32,34 @@ behind-self x = simp (eqb-self, same-refl)
 number-eq : (a b : ℕ) (t : Bool) → (eqb a b && t) ≡ true → (a ≡ b) × (t ≡ true)
 number-eq a b t e = (eqb-true a b (and-left (eqb a b) t e), and-right (eqb a b) t e)
 
-module _ (x y : Said) where
-  behind-eq : sameBehind x y ≡ true → behind x ≡ behind y
-  unfolding sameBehind sameNumbers
-  behind-eq e =
-      let texts = same (x .name) (y .name) && same (x .value) (y .value) in
-      let t = and-right (sameNumbers x y) texts e in
-      let k = number-eq (x .kind) (y .kind) _ (and-left (sameNumbers x y) texts e) in
-      let f = number-eq (x .form) (y .form) _ (k .1) in
-      let a = number-eq (x .first) (y .first) _ (f .1) in
-      let b = number-eq (x .second) (y .second) _ (a .1) in
-      let c = eqb-true (x .third) (y .third) (b .1) in
-      let n = same-eq (x .name) (y .name) (and-left _ (same (x .value) (y .value)) t) in
-      let v = same-eq (x .value) (y .value) (and-right (same (x .name) (y .name)) _ t) in
-      cc (k .0, f .0, a .0, b .0, c, n, v)
+behind-eq : (x y : Said) → sameBehind x y ≡ true → headed (y .head) x ≡ y
+unfolding sameBehind sameNumbers
+behind-eq x y e =
+    let texts = same (x .name) (y .name) && same (x .value) (y .value) in
+    let t = and-right (sameNumbers x y) texts e in
+    let k = number-eq (x .kind) (y .kind) _ (and-left (sameNumbers x y) texts e) in
+    let f = number-eq (x .form) (y .form) _ (k .1) in
+    let a = number-eq (x .first) (y .first) _ (f .1) in
+    let b = number-eq (x .second) (y .second) _ (a .1) in
+    let c = eqb-true (x .third) (y .third) (b .1) in
+    let n = same-eq (x .name) (y .name) (and-left _ (same (x .value) (y .value)) t) in
+    let v = same-eq (x .value) (y .value) (and-right (same (x .name) (y .name)) _ t) in
+    let all : headed (y .head) x ≡ headed (y .head) y = cc (k .0, f .0, a .0, b .0, c, n, v) in
+    all
 
-  eq-behind : behind x ≡ behind y → sameBehind x y ≡ true
-  unfolding sameBehind sameNumbers
-  eq-behind e = ap (sameBehind (behind x)) (sym e) ∙ behind-self (behind x)
-
-module _ (hosts : Hosts) (x y : Said) where
-  alike-head : alikeSaid hosts x y ≡ true → hosts (x .head) (y .head) ≡ true
+-- what alike shapes tell: the heads are alike, and all else is equal
+module _ (hosts : Hosts) (x y : Said) (e : alikeSaid hosts x y ≡ true) where
+  alike-head : hosts (x .head) (y .head) ≡ true
   unfolding alikeSaid
-  alike-head e = and-left (hosts (x .head) (y .head)) (sameBehind x y) e
+  alike-head = and-left (hosts (x .head) (y .head)) (sameBehind x y) e
 
-  alike-behind : alikeSaid hosts x y ≡ true → behind x ≡ behind y
+  alike-behind : headed (y .head) x ≡ y
   unfolding alikeSaid
-  alike-behind e = behind-eq x y (and-right (hosts (x .head) (y .head)) (sameBehind x y) e)
+  alike-behind = behind-eq x y (and-right (hosts (x .head) (y .head)) (sameBehind x y) e)
 
-  are-alike : hosts (x .head) (y .head) ≡ true → behind x ≡ behind y → alikeSaid hosts x y ≡ true
-  unfolding alikeSaid
-  are-alike h b = both h (eq-behind x y b)
-
-said-eq : (x y : Said) → alikeSaid same x y ≡ true → x ≡ y
-said-eq x y e =
-    let h = same-eq (x .head) (y .head) (alike-head same x y e) in
-    let b = alike-behind same x y e in
-    ap (λ (s : Said). says (s .kind) (s .form) (s .first) (s .second) (s .third) (x .head) (s .name) (s .value)) b
-    ∙ ap (λ (h : List ℕ). says (y .kind) (y .form) (y .first) (y .second) (y .third) h (y .name) (y .value)) h
-
-said-self : (x : Said) → alikeSaid same x x ≡ true
-said-self x = are-alike same x x (same-refl (x .head)) refl
+are-alike : (hosts : Hosts) (x : Said) (g : List ℕ) → hosts (x .head) g ≡ true → alikeSaid hosts x (headed g x) ≡ true
+unfolding alikeSaid sameBehind sameNumbers
+are-alike hosts x g h = both h (behind-self x)
 
 -- the meaning that says this
 numberBack : ℕ → Option ℕ
@@ -110,34 +99,53 @@ version-back means.ieee1588-2008 = refl
 version-back means.ieee802-1as-2011 = refl
 version-back (means.ownVersion s) = refl
 
-ptp-back : (v : Version) (s : Server) → clockBack (serverSays (versionKind v) (versionName v) s) ≡ means.ptp v s
+ptp-back : (g : List ℕ) (v : Version) (s : Server) → means.ptp v s ≡ clockBack (headed g (serverSays (versionKind v) (versionName v) s))
 unfolding clockBack
-ptp-back v means.traceable = simp (version-back v)
-ptp-back v (means.gmid g none) = simp (version-back v)
-ptp-back v (means.gmid g (some (means.name n))) = simp (version-back v)
-ptp-back v (means.gmid g (some (means.number n))) = simp (version-back v)
+ptp-back g v means.traceable = simp (version-back v)
+ptp-back g v (means.gmid n none) = simp (version-back v)
+ptp-back g v (means.gmid n (some (means.name s))) = simp (version-back v)
+ptp-back g v (means.gmid n (some (means.number d))) = simp (version-back v)
 
-clock-back : (m : RefMeaning) → clockBack (clockSays m) ≡ m
-unfolding clockSays clockBack numberBack
-clock-back means.ntpTraceable = refl
-clock-back (means.ntpHost h none) = refl
-clock-back (means.ntpHost h (some n)) = refl
-clock-back (means.ptp v s) = ptp-back v s
-clock-back means.gps = refl
-clock-back means.gal = refl
-clock-back means.glonass = refl
-clock-back means.local = refl
-clock-back means.privateStandard = refl
-clock-back means.privateTraceable = refl
-clock-back (means.refExt n none) = refl
-clock-back (means.refExt n (some v)) = refl
+-- with a head that is alike comes back a meaning of that clock: only a host is told by its head
+module _ (hosts : Hosts) (g : List ℕ) where
+  clock-back : (m : RefMeaning) → hosts (clockSays m .head) g ≡ true → OneClock hosts m (clockBack (headed g (clockSays m)))
+  unfolding clockSays clockBack numberBack
+  clock-back means.ntpTraceable e = equal refl
+  clock-back (means.ntpHost h none) e = servers h g none e refl refl
+  clock-back (means.ntpHost h (some n)) e = servers h g (some n) e refl refl
+  clock-back (means.ptp v s) e = equal (ptp-back g v s)
+  clock-back means.gps e = equal refl
+  clock-back means.gal e = equal refl
+  clock-back means.glonass e = equal refl
+  clock-back means.local e = equal refl
+  clock-back means.privateStandard e = equal refl
+  clock-back means.privateTraceable e = equal refl
+  clock-back (means.refExt n none) e = equal refl
+  clock-back (means.refExt n (some v)) e = equal refl
 
-pub clocks-equal : ClocksEqual
-unfolding alike
-clocks-equal m n = (
-  λ e. sym (clock-back m) ∙ ap clockBack (said-eq (clockSays m) (clockSays n) e) ∙ clock-back n,
-  λ e. rw e (said-self (clockSays n)),
-)
+-- where hosts are compared byte by byte, what means one clock is equal
+pub one-equal : (m n : RefMeaning) → OneClock same m n → m ≡ n
+one-equal m n (equal e) = e
+one-equal m n (servers h g port e a b) = let f : h ≡ g = same-eq h g e in cc
+
+clock-is-back : (n : RefMeaning) → clockBack (clockSays n) ≡ n
+clock-is-back n = sym (one-equal n _ (clock-back same (clockSays n .head) n (same-refl (clockSays n .head))))
+
+module _ (hosts : Hosts) (m n : RefMeaning) where
+  alike-right : alike hosts m n ≡ true → OneClock hosts m n
+  unfolding alike
+  alike-right e =
+      let x = clockSays m in
+      let y = clockSays n in
+      rw (ap clockBack (alike-behind hosts x y e) ∙ clock-is-back n) at (clock-back hosts (y .head) m (alike-head hosts x y e))
+
+  alike-found : ((h : List ℕ) → hosts h h ≡ true) → OneClock hosts m n → alike hosts m n ≡ true
+  unfolding alike clockSays
+  alike-found self (equal e) = rw e (are-alike hosts (clockSays n) (clockSays n .head) (self (clockSays n .head)))
+  alike-found self (servers h g port e a b) = rw (a, b) (are-alike hosts (clockSays (means.ntpHost h port)) g e)
+
+pub alike-decides : AlikeDecides
+alike-decides hosts q m n = record { right = alike-right hosts m n; found = alike-found hosts m n (q .to-self) }
 
 abbrev tagBack : ℕ → List ℕ → Option Tag
 tagBack k t = cond (eqb k 0) none (cond (eqb k 1) (some (means.plainTag t)) (some (means.srcTag t)))
@@ -177,15 +185,13 @@ unfolding sourceSays
 source-back (means.mediaSource id clock) =
     media-back (tagKind id) (tagBytes id) clock ∙ ap (λ (t : Option Tag). means.mediaSource t clock) (tag-back id)
 
-pub sources-equal : SourcesEqual
-unfolding sameSource
-sources-equal m n = (
-  λ e. sym (source-back m) ∙ ap sourceBack (said-eq (sourceSays m) (sourceSays n) e) ∙ source-back n,
-  λ e. rw e (said-self (sourceSays n)),
-)
+said-eq : (x y : Said) → alikeSaid same x y ≡ true → x ≡ y
+said-eq x y e =
+    let h = same-eq (x .head) (y .head) (alike-head same x y e) in
+    ap (λ (g : List ℕ). headed g x) h ∙ alike-behind same x y e
 
 -- bytes sort into classes, and clocks as their hosts do
-same-classes : Equivalence same
+same-classes : Equivalence (Yes same)
 same-classes =
     record {
       to-self = same-refl;
@@ -193,26 +199,44 @@ same-classes =
       on = λ s t u e f. rw (same-eq s t e, same-eq t u f) (same-refl u);
     }
 
-hosts-classes : Equivalence hostsAlike
+hosts-classes : Equivalence (Yes hostsAlike)
 unfolding hostsAlike
 hosts-classes = same-classes
 
-alike-classes : (hosts : Hosts) → Equivalence hosts → Equivalence (alike hosts)
-unfolding alike
-alike-classes hosts q =
-    record {
-      to-self = λ a. let x = clockSays a in are-alike hosts x x (q .to-self (x .head)) refl;
-      back = λ a b e.
-          let x = clockSays a in
-          let y = clockSays b in
-          are-alike hosts y x (q .back (x .head) (y .head) (alike-head hosts x y e)) (sym (alike-behind hosts x y e));
-      on = λ a b c e f.
-          let x = clockSays a in
-          let y = clockSays b in
-          let z = clockSays c in
-          are-alike hosts x z (q .on (x .head) (y .head) (z .head) (alike-head hosts x y e) (alike-head hosts y z f))
-          (alike-behind hosts x y e ∙ alike-behind hosts y z f);
-    }
+module _ (hosts : Hosts) (q : Equivalence (Yes hosts)) where
+  one-back : (a b : RefMeaning) → OneClock hosts a b → OneClock hosts b a
+  one-back a b (equal e) = equal (sym e)
+  one-back a b (servers h g port e x y) = servers g h port (q .back h g e) y x
+
+  one-on : (a b c : RefMeaning) → OneClock hosts a b → OneClock hosts b c → OneClock hosts a c
+  one-on a b c (equal e) y = rw e y
+  one-on a b c (servers h g port e x y) (equal f) = servers h g port e x (sym f ∙ y)
+  one-on a b c (servers h g port e x y) (servers i j other f z w) =
+      let k : g ≡ i = cc in
+      let p : port ≡ other = cc in
+      servers h j port (q .on h g j e (rw k f)) x (rw p w)
 
 pub classes : Classes
-classes = record { of-hosts = hosts-classes; of-clocks = alike-classes }
+classes =
+    record {
+      of-hosts = hosts-classes;
+      of-clocks = λ hosts q.
+          record { to-self = λ a. equal refl; back = one-back hosts q; on = one-on hosts q };
+    }
+
+-- what the two equalities decide
+pub clocks-decide : (m n : RefMeaning) → Decides (alike same m n) (m ≡ n)
+clocks-decide m n =
+    record {
+      right = λ e. one-equal m n (alike-right same m n e);
+      found = λ e. alike-found same m n same-refl (equal e);
+    }
+
+pub sources-decide : (m n : SourceMeaning) → Decides (alikeSaid same (sourceSays m) (sourceSays n)) (m ≡ n)
+sources-decide m n =
+    let x = sourceSays m in
+    let y = sourceSays n in
+    record {
+      right = λ e. sym (source-back m) ∙ ap sourceBack (said-eq x y e) ∙ source-back n;
+      found = λ e. rw e (are-alike same y (y .head) (same-refl (y .head)));
+    }

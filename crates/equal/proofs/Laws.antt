@@ -43,10 +43,12 @@ use Rattle.clock.specs.declared.MediaClock.{MediaClock}
 use Rattle.clock.specs.declared.MediaClock.the-variants as media
 use Rattle.clock.specs.declared.MediaClockSource.{MediaClockSource}
 use Rattle.meaning.specs.Meaning.{refMeaning, offsetMeans, mediaMeaning}
-use Rattle.equal.specs.Said.{Said, orNone, clockSays, sourceSays}
-use Rattle.equal.specs.Alike.{Hosts, sameNumbers, sameBehind, alikeSaid, alike, sameSource, hostsAlike}
+use Rattle.equal.specs.Said.{Said, orNone, clockSays, sourceSays, sameNumbers, sameBehind, alikeSaid}
+use Rattle.equal.specs.Decides.{Decides}
+use Rattle.equal.specs.Alike.{Hosts, OneClock, alike, hostsAlike}
 use Rattle.equal.specs.Parts.{parts, over, Says, plainOver, extensionOver, ntpOver, serverOver, ptpOver, clockOver, directOver, mediaOver, sourceOver}
 use Rattle.equal.specs.declared.parts.Parts.{Parts}
+use Rattle.equal.proofs.Equality.{alike-decides, clocks-decide, sources-decide, classes}
 
 abbrev no-text : Place
 no-text = place 0 0
@@ -292,30 +294,48 @@ module _ (hosts : Hosts) (x y : Said) (t : Bool) (et : t ≡ hosts (x .head) (y 
   unfolding alikeSaid
   head-too e r er = simp (← et, e, er)
 
+-- an answer that is equal to one that decides decides too
+decides-as : (P : Type 0) (q r : Bool) → r ≡ q → Decides q P → Decides r P
+decides-as P q r e h = rw e h
+
 module _ (v w : List ℕ) (p q : Parts) (t : Bool) where
-  module _ (c d : ReferenceClock) (sp : Says p (clockOver c)) (sq : Says q (clockOver d))
-      (hosts : Hosts) (et : t ≡ hosts (bytesAt (p .head) v) (bytesAt (q .head) w)) where
-    clocks-say : alikeSaid hosts (over v p) (over w q) ≡ alike hosts (refMeaning v c) (refMeaning w d)
+  module _ (c d : ReferenceClock) (sp : Says p (clockOver c)) (sq : Says q (clockOver d)) where
+    clocks-say : (hosts : Hosts) → alikeSaid hosts (over v p) (over w q) ≡ alike hosts (refMeaning v c) (refMeaning w d)
     unfolding alike clockOver
-    clocks-say = rw (sp .of v, sq .of w)
+    clocks-say hosts = rw (sp .of v, sq .of w)
 
-    pub hosts-not : t ≡ false → false ≡ alike hosts (refMeaning v c) (refMeaning w d)
-    hosts-not e = head-not hosts (over v p) (over w q) t et e ∙ clocks-say
+    clocks-equal : (r : Bool) → r ≡ alikeSaid same (over v p) (over w q) → Decides r (refMeaning v c ≡ refMeaning w d)
+    clocks-equal r e = decides-as _ _ r (e ∙ clocks-say same) (clocks-decide (refMeaning v c) (refMeaning w d))
 
-    pub hosts-too : t ≡ true → (r : Bool) → r ≡ sameBehind (over v p) (over w q) → r ≡ alike hosts (refMeaning v c) (refMeaning w d)
-    hosts-too e r er = head-too hosts (over v p) (over w q) t et e r er ∙ clocks-say
+    one-clock : (r : Bool) → r ≡ alikeSaid hostsAlike (over v p) (over w q) → Decides r (OneClock hostsAlike (refMeaning v c) (refMeaning w d))
+    one-clock r e = decides-as _ _ r (e ∙ clocks-say hostsAlike) (alike-decides hostsAlike (classes .of-hosts) (refMeaning v c) (refMeaning w d))
+
+    module _ (et : t ≡ same (bytesAt (p .head) v) (bytesAt (q .head) w)) where
+      pub equal-not : t ≡ false → Decides false (refMeaning v c ≡ refMeaning w d)
+      equal-not e = clocks-equal false (head-not same (over v p) (over w q) t et e)
+
+      pub equal-too : t ≡ true → (r : Bool) → r ≡ sameBehind (over v p) (over w q) → Decides r (refMeaning v c ≡ refMeaning w d)
+      equal-too e r er = clocks-equal r (head-too same (over v p) (over w q) t et e r er)
+
+    module _ (et : t ≡ hostsAlike (bytesAt (p .head) v) (bytesAt (q .head) w)) where
+      pub hosts-not : t ≡ false → Decides false (OneClock hostsAlike (refMeaning v c) (refMeaning w d))
+      hosts-not e = one-clock false (head-not hostsAlike (over v p) (over w q) t et e)
+
+      pub hosts-too : t ≡ true → (r : Bool) → r ≡ sameBehind (over v p) (over w q)
+          → Decides r (OneClock hostsAlike (refMeaning v c) (refMeaning w d))
+      hosts-too e r er = one-clock r (head-too hostsAlike (over v p) (over w q) t et e r er)
 
   module _ (m n : MediaClockSource) (sp : Says p (sourceOver m)) (sq : Says q (sourceOver n))
       (et : t ≡ same (bytesAt (p .head) v) (bytesAt (q .head) w)) where
-    sources-say : alikeSaid same (over v p) (over w q) ≡ sameSource (mediaMeaning v m) (mediaMeaning w n)
-    unfolding sameSource sourceOver
-    sources-say = rw (sp .of v, sq .of w)
+    sources-equal : (r : Bool) → r ≡ alikeSaid same (over v p) (over w q) → Decides r (mediaMeaning v m ≡ mediaMeaning w n)
+    unfolding sourceOver
+    sources-equal r e = decides-as _ _ r (rw (sp .of v, sq .of w) at e) (sources-decide (mediaMeaning v m) (mediaMeaning w n))
 
-    pub tags-not : t ≡ false → false ≡ sameSource (mediaMeaning v m) (mediaMeaning w n)
-    tags-not e = head-not same (over v p) (over w q) t et e ∙ sources-say
+    pub tags-not : t ≡ false → Decides false (mediaMeaning v m ≡ mediaMeaning w n)
+    tags-not e = sources-equal false (head-not same (over v p) (over w q) t et e)
 
-    pub tags-too : t ≡ true → (r : Bool) → r ≡ sameBehind (over v p) (over w q) → r ≡ sameSource (mediaMeaning v m) (mediaMeaning w n)
-    tags-too e r er = head-too same (over v p) (over w q) t et e r er ∙ sources-say
+    pub tags-too : t ≡ true → (r : Bool) → r ≡ sameBehind (over v p) (over w q) → Decides r (mediaMeaning v m ≡ mediaMeaning w n)
+    tags-too e r er = sources-equal r (head-too same (over v p) (over w q) t et e r er)
 
 pub ruleset laws = (
   not-true,
@@ -364,6 +384,8 @@ pub ruleset laws = (
   name-not,
   value-last,
   hosts-at,
+  equal-not,
+  equal-too,
   hosts-not,
   hosts-too,
   tags-not,

@@ -1,25 +1,25 @@
--- What the comparisons owe. `proofs/Equality.antt` proves each of these statements.
+-- What the comparison of clocks owes. `proofs/Equality.antt` proves each of these statements.
 use mathlib.Core.Path.{_≡_}
-use mathlib.Core.Logic.{_↔_}
 use mathlib.Core.Bool.{Bool, true}
-use Rattle.text.specs.Word.{same}
-use Rattle.meaning.specs.Meaning.{RefMeaning, SourceMeaning}
-use Rattle.equal.specs.Alike.{Hosts, alike, sameSource, hostsAlike}
+use Rattle.meaning.specs.Meaning.{RefMeaning}
+use Rattle.equal.specs.Decides.{Decides}
+use Rattle.equal.specs.Alike.{Hosts, hostsAlike, OneClock, alike}
 
--- the shape loses nothing: what is compared as equal means the same, and the other way round
-abbrev pub ClocksEqual : Type 0
-ClocksEqual = (m n : RefMeaning) → (alike same m n ≡ true) ↔ (m ≡ n)
+-- a relation that sorts into classes
+pub record Equivalence {A : Type 0} (R : A → A → Type 0) : Type 0 where
+  pub to-self : (a : A) → R a a
+  pub back : (a b : A) → R a b → R b a
+  pub on : (a b c : A) → R a b → R b c → R a c
 
-abbrev pub SourcesEqual : Type 0
-SourcesEqual = (m n : SourceMeaning) → (sameSource m n ≡ true) ↔ (m ≡ n)
+-- a test, as a relation
+abbrev pub Yes : {A : Type 0} → (A → A → Bool) → A → A → Type 0
+Yes test a b = test a b ≡ true
 
--- a comparison that sorts into classes
-pub record Equivalence {A : Type 0} (r : A → A → Bool) : Type 0 where
-  pub to-self : (a : A) → r a a ≡ true
-  pub back : (a b : A) → r a b ≡ true → r b a ≡ true
-  pub on : (a b c : A) → r a b ≡ true → r b c ≡ true → r a c ≡ true
-
--- the comparison of clocks does so where that of hosts does, and that of hosts does
+-- being one clock sorts so where the comparison of hosts does, and that of hosts does
 pub record Classes : Type 0 where
-  pub of-hosts : Equivalence hostsAlike
-  pub of-clocks : (hosts : Hosts) → Equivalence hosts → Equivalence (alike hosts)
+  pub of-hosts : Equivalence (Yes hostsAlike)
+  pub of-clocks : (hosts : Hosts) → Equivalence (Yes hosts) → Equivalence (OneClock hosts)
+
+-- the test decides whether it is one clock
+abbrev pub AlikeDecides : Type 0
+AlikeDecides = (hosts : Hosts) → Equivalence (Yes hosts) → (m n : RefMeaning) → Decides (alike hosts m n) (OneClock hosts m n)

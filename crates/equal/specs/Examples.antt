@@ -1,13 +1,20 @@
 -- What the definitions say of some records.
+use Prim.Native.Nat.{ℕ}
 use mathlib.Core.Path.{refl}
-use mathlib.Core.List.{[], _∷_}
+use mathlib.Core.List.{List, [], _∷_}
 use mathlib.Core.Bool.{true, false}
 use mathlib.Core.Option.{none, some}
 use Rattle.text.specs.Example.{_gives_, Each}
 use Rattle.text.specs.Word.{word, same}
-use Rattle.meaning.specs.Meaning.{RefMeaning, ntpHost, ptp, ownVersion, ieee1588-2008, traceable, gmid, name, number, gps, gal, refExt, SourceMeaning, mediaSource, plainTag, srcTag, sender, direct, ratio, mediaExt}
-use Rattle.equal.specs.Said.{clockSays, sourceSays}
-use Rattle.equal.specs.Alike.{sameNumbers, sameBehind, alikeSaid, alike, sameSource}
+use Rattle.text.specs.Place.{place, bytesAt}
+use Rattle.text.specs.declared.Place.{Place}
+use Rattle.clock.specs.Records.{ntp}
+use Rattle.clock.specs.declared.OptPort.the-variants.{NoPort}
+use Rattle.clock.specs.declared.NtpServerAddr.the-variants.{HostPort}
+use Rattle.clock.specs.declared.ReferenceClock.the-variants.{Ntp}
+use Rattle.meaning.specs.Meaning.{RefMeaning, refMeaning, ntpHost, ptp, ownVersion, ieee1588-2008, traceable, gmid, name, number, gps, gal, refExt}
+use Rattle.equal.specs.Said.{clockSays, sameNumbers, sameBehind, alikeSaid}
+use Rattle.equal.specs.Alike.{alike}
 
 -- absent is not empty, and a port that is absent is none that is 0
 clocks : Each (λ (p : RefMeaning × RefMeaning). alike same (p .0) (p .1)) (
@@ -33,13 +40,14 @@ hosts : Each (λ (p : RefMeaning × RefMeaning). alike (λ s t. true) (p .0) (p 
 unfolding alike alikeSaid sameBehind sameNumbers clockSays same
 hosts = refl
 
-sources : Each (λ (p : SourceMeaning × SourceMeaning). sameSource (p .0) (p .1)) (
-    (mediaSource none sender, mediaSource none sender) gives true
-    ∷ (mediaSource none sender, mediaSource (some (plainTag (word "a"))) sender) gives false
-    ∷ (mediaSource (some (plainTag (word "a"))) sender, mediaSource (some (srcTag (word "a"))) sender) gives false
-    ∷ (mediaSource none (direct none none), mediaSource none (direct (some 0) none)) gives false
-    ∷ (mediaSource none (direct none (some (ratio 1 2))), mediaSource none (direct none (some (ratio 2 4)))) gives false
-    ∷ (mediaSource none (mediaExt (word "x") none), mediaSource none (mediaExt (word "x") (some []))) gives false
+-- the bytes count and not their places, and a place that reaches outside its value has the bytes that are there
+abbrev hostAt : List ℕ × Place → RefMeaning
+hostAt p = refMeaning (p .0) (Ntp (ntp (HostPort (p .1) NoPort)))
+
+places : Each (λ (p : (List ℕ × Place) × (List ℕ × Place)). alike same (hostAt (p .0)) (hostAt (p .1))) (
+    ((word "ntp=h", place 4 1), (word "h", place 0 1)) gives true
+    ∷ ((word "ntp=h", place 4 1), (word "ntp=h", place 4 9)) gives true
+    ∷ ((word "ntp=h", place 4 1), (word "ntp=g", place 4 1)) gives false
     ∷ [])
-unfolding sameSource alikeSaid sameBehind sameNumbers sourceSays same
-sources = refl
+unfolding refMeaning bytesAt alike alikeSaid sameBehind sameNumbers clockSays same
+places = refl

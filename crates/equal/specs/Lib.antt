@@ -1,6 +1,7 @@
--- The definitions that this crate's contracts cite, what they owe, and examples of them.
+-- What this crate's contracts cite (Decides, Alike), what that owes, examples of it, and the code's own shape (Said, Parts).
+pub mod Decides
 pub mod Said
-pub mod Alike
 pub mod Parts
+pub mod Alike
 pub mod Equality
 pub mod Examples

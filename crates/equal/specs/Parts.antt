@@ -1,4 +1,4 @@
--- The code's shape holds places; over a value it says what stands there.
+-- The code's own shape again, as the code has it: with places, which over a value say what stands there. Only contracts of private functions cite it.
 use Prim.Native.Nat.{ℕ}
 use mathlib.Core.Path.{_≡_}
 use mathlib.Core.List.{List, []}

@@ -1,9 +1,12 @@
--- What a record says, in one shape for both attributes: its kinds and numbers, and its texts, each in a column of its own. What a clock does not
--- have is 0 or no bytes there; whether it is absent, or present and empty, is a kind. Nothing is lost: records that say the same mean the same
--- (specs/Equality.antt).
+-- The code's own shape, which only contracts of private functions and the test `alike` cite: what a record says, in one shape for both attributes.
+-- Its kinds and numbers, and its texts, stand each in a column of its own. What a clock does not have is 0 or no bytes there; whether it is absent, or
+-- present and empty, is a kind. Nothing is lost: records that say the same mean the same (proofs/Equality.antt).
 use Prim.Native.Nat.{ℕ, suc}
 use mathlib.Core.List.{List, []}
+use mathlib.Core.Bool.{Bool, _&&_}
 use mathlib.Core.Option.{Option, none, some}
+use lib.Dec.{eqb}
+use Rattle.text.specs.Word.{same}
 use Rattle.meaning.specs.Meaning.{Version, Server, Ratio, Tag, RefMeaning, MediaMeaning, SourceMeaning}
 use Rattle.meaning.specs.Meaning as means
 
@@ -98,3 +101,15 @@ mediaSays f t (means.mediaExt n v) = extensionSays 3 f t n v
 
 unfoldable pub sourceSays : SourceMeaning → Said
 sourceSays (means.mediaSource id clock) = mediaSays (tagKind id) (tagBytes id) clock
+
+-- two shapes are equal column by column; how the heads are compared is a parameter
+unfoldable pub sameNumbers : Said → Said → Bool
+sameNumbers x y =
+    eqb (x .kind) (y .kind) && (eqb (x .form) (y .form) && (eqb (x .first) (y .first) && (eqb (x .second) (y .second) && eqb (x .third) (y .third))))
+
+-- all but the head
+unfoldable pub sameBehind : Said → Said → Bool
+sameBehind x y = sameNumbers x y && (same (x .name) (y .name) && same (x .value) (y .value))
+
+unfoldable pub alikeSaid : (List ℕ → List ℕ → Bool) → Said → Said → Bool
+alikeSaid heads x y = heads (x .head) (y .head) && sameBehind x y

@@ -4,9 +4,10 @@ mod parts;
 ghost use mathlib.Core.Path.{_≡_};
 ghost use mathlib.Core.List.{[]};
 ghost use Rattle.text.specs.Place.{bytesAt};
-ghost use Rattle.text.specs.Word.{same};
 ghost use Rattle.meaning.specs.Meaning.{refMeaning, mediaMeaning};
-ghost use Rattle.equal.specs.Alike.{hostsAlike, sameNumbers, sameBehind, alike, sameSource};
+ghost use Rattle.equal.specs.Decides.{Decides};
+ghost use Rattle.equal.specs.Alike.{hostsAlike, OneClock};
+ghost use Rattle.equal.specs.Said.{sameNumbers, sameBehind};
 ghost use Rattle.equal.specs.Parts.{over};
 use clock::MediaClockSource;
 use clock::ReferenceClock;
@@ -60,7 +61,7 @@ fn equal_behind(v: &[u8], x: Parts, w: &[u8], y: Parts) -> bool
 
 // Whether two ts-refclk records are equal.
 pub fn equal_reference_clocks(v: &[u8], c: ReferenceClock, w: &[u8], d: ReferenceClock) -> bool
-    ensures { λ r. ⌜ r ≡ alike same (refMeaning (now (v .entry)) c) (refMeaning (now (w .entry)) d) ⌝ }
+    ensures { λ r. ⌜ Decides r (refMeaning (now (v .entry)) c ≡ refMeaning (now (w .entry)) d) ⌝ }
 {
     let x = parts::clock_parts(c);
     let y = parts::clock_parts(d);
@@ -72,7 +73,7 @@ pub fn equal_reference_clocks(v: &[u8], c: ReferenceClock, w: &[u8], d: Referenc
 
 // Whether two ts-refclk records name the same clock: equal, but for hosts that are two names of one server.
 pub fn same_reference_clocks(v: &[u8], c: ReferenceClock, w: &[u8], d: ReferenceClock) -> bool
-    ensures { λ r. ⌜ r ≡ alike hostsAlike (refMeaning (now (v .entry)) c) (refMeaning (now (w .entry)) d) ⌝ }
+    ensures { λ r. ⌜ Decides r (OneClock hostsAlike (refMeaning (now (v .entry)) c) (refMeaning (now (w .entry)) d)) ⌝ }
 {
     let x = parts::clock_parts(c);
     let y = parts::clock_parts(d);
@@ -89,7 +90,7 @@ pub fn equal_media_clock_sources(
     w: &[u8],
     n: MediaClockSource,
 ) -> bool
-    ensures { λ r. ⌜ r ≡ sameSource (mediaMeaning (now (v .entry)) m) (mediaMeaning (now (w .entry)) n) ⌝ }
+    ensures { λ r. ⌜ Decides r (mediaMeaning (now (v .entry)) m ≡ mediaMeaning (now (w .entry)) n) ⌝ }
 {
     let x = parts::source_parts(m);
     let y = parts::source_parts(n);

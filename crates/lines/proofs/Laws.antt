@@ -18,7 +18,7 @@ use Rattle.text.proofs.Bools.{by-bool}
 use Rattle.text.proofs.Cuts.{ends-some, before-le}
 use Rattle.text.proofs.Left.{rest, rest-is}
 use Rattle.room.specs.Put.{Put}
-use Rattle.room.proofs.Laws.{put-front, sets-append, sets-behind}
+use Rattle.room.proofs.Laws.{put-length, put-front, sets-append, sets-behind}
 use Rattle.report.specs.Lines.{withoutCr, endedFrom, openFrom, lastLine}
 use Rattle.report.specs.Reply.{Reply, replyTo}
 use Rattle.report.specs.Report.{printed, totalsOf, totalsText}
@@ -134,9 +134,6 @@ module _ (memory part : List ℕ) (len n : ℕ) (m : length memory ≡ 4098) (h 
   pub keep-length : n ≡ length (take n part)
   keep-length = sym (length-take-le n part (omega arith))
 
-  pub keep-asks : len + length (take n part) ≤ 65536
-  keep-asks = omega (arith, keep-length)
-
   keep-taken : take n part ≡ take (4098 - len) part
   keep-taken =
       by-bool (ltb (length part) (4098 - len))
@@ -158,7 +155,7 @@ module _ (memory part : List ℕ) (len n : ℕ) (m : length memory ≡ 4098) (h 
   pub keep-done : (r : ℕ) (after : List ℕ) → Put (length (take n part)) memory len (take n part) r after → Keeps memory len part r after
   keep-done r after p =
       let d : length (take len memory) ≡ len = length-take-le len memory (omega arith) in
-      let f : length (take len memory ++ take n part) ≡ r = omega (arith, length-append (take len memory) (take n part), p .place) in
+      let f : length (take len memory ++ take n part) ≡ r = omega (arith, length-append (take len memory) (take n part), p .place, keep-length) in
       let g : len + (4098 - len) ≡ 4098 = omega arith in
       record {
         short = omega (arith, p .place, keep-length);
@@ -347,8 +344,7 @@ module _ (room part : List ℕ) (at : ℕ) (t : Totals) (from n : ℕ) (q : Put 
   pub totals-put : from ≡ min at (length room) → length part ≡ length (rest from room)
       → Prints (totalsText t) room at (at + n) (putMid from (length room - from) room part)
   totals-put f size =
-      let e : n ≡ length (totalsText t) = omega (arith, q .place) in
-      rw e (in-part (totalsText t) room part at from f size (put-front q))
+      rw (put-length q (omega arith)) (in-part (totalsText t) room part at from f size (put-front q))
 
 -- `finish`
 module _ (last room : List ℕ) (t : Totals) (end : ℕ) (after : List ℕ) where
@@ -509,7 +505,6 @@ pub ruleset laws = (
   ended-length,
   ended-put,
   keep-length,
-  keep-asks,
   keep-done,
   end-whole,
   end-plain,

@@ -64,3 +64,15 @@ abbrev pub Closes : State → List ℕ → List ℕ → Fed → List ℕ → Typ
 Closes state memory room r room₁ =
     let reader = view state memory in
     Does (closeOutcome reader) (closed reader) memory state memory room r memory room₁
+
+-- No second answer meets either: one answer and state, one memory and one room. `proofs/Settled.antt` proves both statements.
+abbrev pub FeedsSettled : Type 0
+FeedsSettled =
+    (state : State) (memory s room : List ℕ) (r other : Fed) (memory₁ memory₂ room₁ room₂ : List ℕ)
+    → Feeds state memory s room r memory₁ room₁ → Feeds state memory s room other memory₂ room₂
+    → (r ≡ other) × (memory₁ ≡ memory₂) × (room₁ ≡ room₂)
+
+abbrev pub ClosesSettled : Type 0
+ClosesSettled =
+    (state : State) (memory room : List ℕ) (r other : Fed) (room₁ room₂ : List ℕ)
+    → Closes state memory room r room₁ → Closes state memory room other room₂ → (r ≡ other) × (room₁ ≡ room₂)

@@ -18,7 +18,8 @@ use Rattle.meaning.specs.Meaning.{refMeaning, mediaMeaning}
 use Rattle.meaning.specs.Text.{refMeaningText, referenceClockText, mediaClockSourceText}
 use Rattle.meaning.specs.Inside.{referenceClockInside, mediaClockSourceInside}
 use Rattle.meaning.specs.Written.{writtenReferenceClock, writtenMediaClockSource}
-use Rattle.meaning.specs.Demand3.{RefGiven, RefWritten, RefReadBack, RefTexts, MediaGiven, MediaWritten, MediaReadBack, MediaTexts}
+use Rattle.meaning.specs.Demand3.{RefGiven, RefWritten, RefReadBack, RefReadsBack, RefTexts}
+use Rattle.meaning.specs.Demand3.{MediaGiven, MediaWritten, MediaReadBack, MediaReadsBack, MediaTexts}
 use Rattle.meaning.proofs.Told.{Accepted, was-accepted, was-made}
 use Rattle.meaning.proofs.Spelling.{bare-lawful}
 use Rattle.meaning.proofs.Reference.{readBack, ref-fits, ref-inside, ref-short, ref-back, ref-texts}
@@ -65,9 +66,9 @@ module _ (v : List ℕ) (c : ReferenceClock) (room : List ℕ) (g : RefGiven v c
         longer = rw ref-text (ref-short bare bare-lawful v c ref-is-read);
       }
 
-  pub ref-read-back : RefReadBack v c room
+  ref-again : RefReadBack v c (writtenReferenceClock v c room)
   unfolding readReferenceClock referenceClockText readBack
-  ref-read-back =
+  ref-again =
       let t = referenceClockText v c in
       let b = ref-back bare bare-lawful v c ref-is-read in
       record {
@@ -76,6 +77,9 @@ module _ (v : List ℕ) (c : ReferenceClock) (room : List ℕ) (g : RefGiven v c
             rw ref-text (r .value, (ap asReferenceClockRead (r .is), sym (r .made)));
         class = λ o. rw ref-text (ap asReferenceClockRead (ref-refused (referenceClockOf bare t) (refMeaning t) _ (rw o at b)));
       }
+
+pub ref-read-back : RefReadsBack
+ref-read-back = ref-again
 
 pub ref-demand : RefTexts
 unfolding referenceClockText
@@ -121,12 +125,15 @@ module _ (v : List ℕ) (m : MediaClockSource) (room : List ℕ) (g : MediaGiven
         longer = rw media-text (media-short v m media-is);
       }
 
-  pub media-read-back : MediaReadBack v m room
+  media-again : MediaReadBack v m (writtenMediaClockSource v m room)
   unfolding readMediaClockSource
-  media-read-back =
+  media-again =
       let t = mediaClockSourceText v m in
       let r = was-made (mediaClockSourceOf t) (mediaMeaning t) (mediaMeaning v m) (media-back v m media-is) in
       record { same = rw media-text (r .value, (ap asMediaClockSourceRead (r .is), sym (r .made))) }
+
+pub media-read-back : MediaReadsBack
+media-read-back = media-again
 
 pub media-demand : MediaTexts
 media-demand v w m n room other g k = (

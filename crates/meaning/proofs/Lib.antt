@@ -9,5 +9,8 @@ pub mod Reference
 pub mod Direct
 pub mod Media
 pub mod Room
+pub mod Placed
+pub mod Demand1
 pub mod Demand3
 pub mod Rows
+pub mod Refusals

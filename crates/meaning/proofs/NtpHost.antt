@@ -56,7 +56,7 @@ module _ (h : List ℕ) (ip : ipAddress h ≡ true) where
         no-bracket = by-bool (starts (word "[") h) (λ e. clash (not-in 91 [] (drop 1 h) refl (starts-cut (word "[") h e))) (λ e. e);
       }
 
-  no-close : before 93 h ≡ length h
+  pub no-close : before 93 h ≡ length h
   unfolding addressByte
   no-close =
       let i = before 93 h in

@@ -8,12 +8,13 @@ use lib.ListN.{length, drop}
 use lib.Seq.{take-at}
 use borrow.Author.Tests.{le-ltb}
 use Rattle.clock.specs.declared.Wrote.the-variants.{Length}
+use Rattle.meaning.specs.Answer.{mostBytes}
 use Rattle.meaning.specs.Written.{wroteOf, roomAfter, front}
 
 module _ (v : List ℕ) (inside : Bool) (t room : List ℕ) (short : length v ≤ 1024) (within : inside ≡ true) (fits : length t ≤ length room) where
   pub wrote-length : wroteOf v inside t (length room) ≡ Length (length t)
   unfolding wroteOf
-  wrote-length = simp (le-ltb 1024 (length v) short, within, le-ltb (length room) (length t) fits)
+  wrote-length = simp (le-ltb mostBytes (length v) short, within, le-ltb (length room) (length t) fits)
 
   pub wrote-text : front (wroteOf v inside t (length room)) (roomAfter (wroteOf v inside t (length room)) t room) ≡ t
   unfolding front roomAfter

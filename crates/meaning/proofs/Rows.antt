@@ -2,7 +2,7 @@
 -- Assumes nothing.
 use Prim.Native.Nat.{ℕ, _≤_}
 use mathlib.Core.Path.{_≡_, refl, _∙_}
-use mathlib.Core.List.{List, [], _∷_, map}
+use mathlib.Core.List.{List, [], _∷_, _++_, map, map-append}
 use mathlib.Core.Bool.{Bool, true, _&&_}
 use lib.Dec.{leb}
 use lib.ListN.{length}
@@ -33,7 +33,7 @@ use Rattle.meaning.specs.Rows.{Given, ts-refclk, mediaclk, Said, refWrit
 abbrev pub short : List ℕ → Bool
 short s = leb (length s) 1024 && ascii s
 
-abbrev plain : Given → Bool
+abbrev pub plain : Given → Bool
 plain (ts-refclk v) = short v
 plain (mediaclk v) = short v
 
@@ -52,10 +52,17 @@ module _ (v : List ℕ) (h : short v ≡ true) where
   unfolding readReferenceClock referenceClockOf
   ref-plain = rw (guarded-well v (clockOf bare v) fits form)
 
+  pub media-plain : readMediaClockSource v ≡ asMediaClockSourceRead (sourceOf v)
+  unfolding readMediaClockSource mediaClockSourceOf
+  media-plain = rw (guarded-well v (sourceOf v) fits form)
+
 said-plain : (g : Given) → plain g ≡ true → said g ≡ saidPlain g
-unfolding readMediaClockSource mediaClockSourceOf
 said-plain (ts-refclk v) h = rw (ref-plain v h)
-said-plain (mediaclk v) h = rw (guarded-well v (sourceOf v) (fits v h) (form v h))
+said-plain (mediaclk v) h = rw (media-plain v h)
+
+-- rows, and rows behind them
+pub each-append : {A B : Type 0} (f : A → B) (a b : List (Example A B)) → Each f a → Each f b → Each f (a ++ b)
+each-append f a b h e = simp map-append (cc (h, e))
 
 -- rows hold of f that hold of g, where the two agree on what is given
 module _ {A B : Type 0} (f g : A → B) (ok : A → Bool) (agree : (a : A) → ok a ≡ true → f a ≡ g a) where

@@ -20,7 +20,7 @@ use Rattle.utf8.specs.Utf8.{utf8Of}
 use Rattle.utf8.specs.declared.Utf8.{Utf8}
 use Rattle.utf8.specs.declared.Utf8.the-variants.{Well, Ill}
 use Rattle.clock.specs.declared.Refusal.{Refusal}
-use Rattle.meaning.specs.Answer.{Answer, accepted, refused, refuse, _>>=_, orRefuse, ifWell, guarded}
+use Rattle.meaning.specs.Answer.{Answer, accepted, refused, refuse, _>>=_, orRefuse, mostBytes, ifWell, guarded}
 
 module _ {A B : Type 0} where
   -- b was accepted by way of what x accepted
@@ -53,8 +53,8 @@ pub record Accepted {A : Type 0} (v : List ℕ) (x : Answer A) (a : A) : Type 0 
 pub was-accepted : {A : Type 0} (v : List ℕ) (x : Answer A) (a : A) → guarded v x ≡ accepted a → Accepted v x a
 unfolding guarded
 was-accepted v x a h =
-    by-bool (ltb 1024 (length v)) (λ e. clash (cc (simp e at h)))
-    (λ e. go (utf8Of v) refl (ltb-false 1024 (length v) e) (simp e at h))
+    by-bool (ltb mostBytes (length v)) (λ e. clash (cc (simp e at h)))
+    (λ e. go (utf8Of v) refl (ltb-false mostBytes (length v) e) (simp e at h))
   where
     go : (u : Utf8) → utf8Of v ≡ u → length v ≤ 1024 → ifWell u x ≡ accepted a → Accepted v x a
     go Well e l h = record { fits = l; form = e; is = h }
@@ -116,12 +116,12 @@ as-read a h e f =
 -- a value that is short and well-formed passes the guard
 pub guarded-well : {A : Type 0} (s : List ℕ) (a : Answer A) → length s ≤ 1024 → utf8Of s ≡ Well → guarded s a ≡ a
 unfolding guarded
-guarded-well s a h k = simp (le-ltb 1024 (length s) h, k)
+guarded-well s a h k = simp (le-ltb mostBytes (length s) h, k)
 
 -- and one that is too long does not
 pub guarded-long : {A : Type 0} (s : List ℕ) (a : Answer A) → 1024 < length s → guarded s a ≡ refuse 1 1024 (length s - 1024)
 unfolding guarded
-guarded-long s a h = simp (lt-ltb 1024 (length s) h)
+guarded-long s a h = simp (lt-ltb mostBytes (length s) h)
 
 -- s is cut at its first b: x stands before it, with no b, and y behind it
 pub record Cut (b : ℕ) (s x y : List ℕ) : Type 0 where

@@ -55,6 +55,10 @@ module _ {A : Type 0} where
       cond (eqb i 0) (refuse k at 0)
       (accepted (make (place at i) (cond (ltb i (length s)) (SomeValue (place (at + (i + 1)) (length s - (i + 1)))) NoValue)))
 
+-- how many bytes a value may have
+abbrev pub mostBytes : ℕ
+mostBytes = 1024
+
 -- Before all else a value over 1,024 bytes is refused, and second one that is not well-formed UTF-8.
 module _ {A : Type 0} where
   abbrev pub ifWell : Utf8 → Answer A → Answer A
@@ -62,4 +66,4 @@ module _ {A : Type 0} where
   ifWell (Ill at) a = refuse 2 at 1
 
   unfoldable pub guarded : List ℕ → Answer A → Answer A
-  guarded s a = cond (ltb 1024 (length s)) (refuse 1 1024 (length s - 1024)) (ifWell (utf8Of s) a)
+  guarded s a = cond (ltb mostBytes (length s)) (refuse 1 mostBytes (length s - mostBytes)) (ifWell (utf8Of s) a)

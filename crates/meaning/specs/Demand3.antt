@@ -40,17 +40,15 @@ module _ (v : List ℕ) (c : ReferenceClock) (room : List ℕ) where
     pub succeeds : wroteReferenceClock v c (length room) ≡ Length (length (writtenReferenceClock v c room))
     pub longer : length (writtenReferenceClock v c room) ≤ length v + 2
 
-  -- reading what was written
-  pub record RefReadBack : Type 0 where
-    pub same : inClass (refMeaning v c) ≡ false
-        → (d : ReferenceClock) × ((readReferenceClock (writtenReferenceClock v c room) ≡ ref.Accepted d)
-        × SameReferenceClock (writtenReferenceClock v c room) d v c)
-    pub class : inClass (refMeaning v c) ≡ true
-        → readReferenceClock (writtenReferenceClock v c room)
-        ≡ ref.Refused
-        (cond (ltb 1024 (length (writtenReferenceClock v c room)))
-        (refusal 1 1024 (length (writtenReferenceClock v c room) - 1024))
-        (refusal 4 4 (length (writtenReferenceClock v c room) - 4)))
+-- reading a text t that was written of c over v gives an equal record, or, for the class, the refusal
+pub record RefReadBack (v : List ℕ) (c : ReferenceClock) (t : List ℕ) : Type 0 where
+  pub same : inClass (refMeaning v c) ≡ false
+      → (d : ReferenceClock) × ((readReferenceClock t ≡ ref.Accepted d) × SameReferenceClock t d v c)
+  pub class : inClass (refMeaning v c) ≡ true
+      → readReferenceClock t ≡ ref.Refused (cond (ltb 1024 (length t)) (refusal 1 1024 (length t - 1024)) (refusal 4 4 (length t - 4)))
+
+abbrev pub RefReadsBack : Type 0
+RefReadsBack = (v : List ℕ) (c : ReferenceClock) (room : List ℕ) → RefGiven v c room → RefReadBack v c (writtenReferenceClock v c room)
 
 -- written texts are equal exactly when the records are
 abbrev pub RefTexts : Type 0
@@ -69,9 +67,11 @@ module _ (v : List ℕ) (m : MediaClockSource) (room : List ℕ) where
     pub succeeds : wroteMediaClockSource v m (length room) ≡ Length (length (writtenMediaClockSource v m room))
     pub longer : length (writtenMediaClockSource v m room) ≤ length v
 
-  pub record MediaReadBack : Type 0 where
-    pub same : (n : MediaClockSource) × ((readMediaClockSource (writtenMediaClockSource v m room) ≡ media.Accepted n)
-        × SameMediaClockSource (writtenMediaClockSource v m room) n v m)
+pub record MediaReadBack (v : List ℕ) (m : MediaClockSource) (t : List ℕ) : Type 0 where
+  pub same : (n : MediaClockSource) × ((readMediaClockSource t ≡ media.Accepted n) × SameMediaClockSource t n v m)
+
+abbrev pub MediaReadsBack : Type 0
+MediaReadsBack = (v : List ℕ) (m : MediaClockSource) (room : List ℕ) → MediaGiven v m room → MediaReadBack v m (writtenMediaClockSource v m room)
 
 abbrev pub MediaTexts : Type 0
 MediaTexts =

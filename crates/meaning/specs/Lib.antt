@@ -7,5 +7,7 @@ pub mod MediaClock
 pub mod Text
 pub mod Inside
 pub mod Written
+pub mod Demand1
 pub mod Demand3
 pub mod Rows
+pub mod Refusals

@@ -12,6 +12,7 @@ use Rattle.clock.specs.declared.WriteRefusal.{WriteRefusal}
 use Rattle.clock.specs.declared.WriteRefusal.the-variants as refused
 use Rattle.clock.specs.declared.ReferenceClock.{ReferenceClock}
 use Rattle.clock.specs.declared.MediaClockSource.{MediaClockSource}
+use Rattle.meaning.specs.Answer.{mostBytes}
 use Rattle.meaning.specs.Text.{referenceClockText, mediaClockSourceText}
 use Rattle.meaning.specs.Inside.{referenceClockInside, mediaClockSourceInside}
 
@@ -26,15 +27,11 @@ abbrev pub wroteNumber : Wrote → Option ℕ
 wroteNumber (wrote.Length n) = none
 wroteNumber (wrote.Refused r) = some (refusalNumber r)
 
--- the number that is owed
-unfoldable pub owedNumber : List ℕ → Bool → List ℕ → ℕ → Option ℕ
-owedNumber v inside t n = cond (ltb 1024 (length v)) (some 1) (cond (not inside) (some 23) (cond (ltb n (length t)) (some 24) none))
-
 -- writing the text t of a record over the value v into a room of n bytes: a value over 1,024 bytes is refused, then a place that reaches
 -- outside the value, then a room that is too short
 unfoldable pub wroteOf : List ℕ → Bool → List ℕ → ℕ → Wrote
 wroteOf v inside t n =
-    cond (ltb 1024 (length v)) (wrote.Refused (refused.Value (refusal 1 1024 (length v - 1024))))
+    cond (ltb mostBytes (length v)) (wrote.Refused (refused.Value (refusal 1 mostBytes (length v - mostBytes))))
     (cond (not inside) (wrote.Refused refused.Outside)
     (cond (ltb n (length t)) (wrote.Refused (refused.Room (length t)))
     (wrote.Length (length t))))

@@ -27,7 +27,7 @@ use Rattle.meaning.specs.Text.{referenceClockText, mediaClockSourceText}
 use Rattle.meaning.specs.Inside.{referenceClockInside, mediaClockSourceInside}
 use Rattle.meaning.specs.Written.{wroteOf, roomAfter}
 use Rattle.room.specs.Put.{Put}
-use Rattle.room.proofs.Laws.{put-then, put-front}
+use Rattle.room.proofs.Laws.{put-then, put-length, put-front}
 use Rattle.writing.specs.Writes.{Writes}
 use Rattle.report.specs.declared.Kind.the-variants.{Accepted}
 use Rattle.report.specs.Reply.{noReply}
@@ -102,7 +102,7 @@ at-front t l {n = n} e f is = is .bytes ∙ ap (take n) f ∙ take-at t (drop (l
 -- a record's notation there
 module _ {k j : ℕ} {t l : List ℕ} {array part : Lent} (e : length l ≡ k) (p : Put k l 0 t j (array .now)) (is : PartAt array (place 0 j) part) where
   noted : part .now ≡ t
-  noted = at-front t l (omega (arith, p .place)) (put-front p (omega (arith, p .bound))) is
+  noted = at-front t l (put-length p (omega (arith, e, p .reach))) (put-front p (omega (arith, p .bound))) is
 
   note-length : length (part .now) ≤ k
   note-length = rw noted (p .bound)

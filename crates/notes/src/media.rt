@@ -1,6 +1,5 @@
 // The notation of a mediaclk record. A local that holds a place in the room is named by what is put there.
 ghost use mathlib.Core.Bool.{cond};
-ghost use Prim.Native.Nat.{_+_, _≤_};
 ghost use Rattle.text.specs.Word.{word};
 ghost use Rattle.room.specs.Put.{Put};
 ghost use Rattle.notes.specs.Notation.{idNote, offsetNote, rateNote, directNote, mediaNote, mediaClockSourceNote};
@@ -12,7 +11,6 @@ use clock::OptOffset;
 use clock::OptRate;
 
 fn put_id_kind(room: &mut [u8], at: usize, src: bool) -> usize
-    requires { ⌜ at + 4 ≤ 65536 ⌝ }
     ensures { λ r. ⌜ Put 4 (now (room .entry)) at (cond src (word "src ") (word "id ")) r (now (room .exit)) ⌝ }
 {
     if src {
@@ -22,7 +20,6 @@ fn put_id_kind(room: &mut [u8], at: usize, src: bool) -> usize
 }
 
 fn put_id(room: &mut [u8], at: usize, id: OptId) -> usize
-    requires { ⌜ at + 45 ≤ 65536 ⌝ }
     ensures { λ r. ⌜ Put 45 (now (room .entry)) at (idNote id) r (now (room .exit)) ⌝ }
 {
     match id {
@@ -36,7 +33,6 @@ fn put_id(room: &mut [u8], at: usize, id: OptId) -> usize
 }
 
 fn put_offset(room: &mut [u8], at: usize, offset: OptOffset) -> usize
-    requires { ⌜ at + 10 ≤ 65536 ⌝ }
     ensures { λ r. ⌜ Put 10 (now (room .entry)) at (offsetNote offset) r (now (room .exit)) ⌝ }
 {
     match offset {
@@ -46,7 +42,6 @@ fn put_offset(room: &mut [u8], at: usize, offset: OptOffset) -> usize
 }
 
 fn put_rate(room: &mut [u8], at: usize, rate: OptRate) -> usize
-    requires { ⌜ at + 21 ≤ 65536 ⌝ }
     ensures { λ r. ⌜ Put 21 (now (room .entry)) at (rateNote rate) r (now (room .exit)) ⌝ }
 {
     match rate {
@@ -60,7 +55,6 @@ fn put_rate(room: &mut [u8], at: usize, rate: OptRate) -> usize
 }
 
 fn put_direct(room: &mut [u8], at: usize, offset: OptOffset, rate: OptRate) -> usize
-    requires { ⌜ at + 39 ≤ 65536 ⌝ }
     ensures { λ r. ⌜ Put 39 (now (room .entry)) at (directNote offset rate) r (now (room .exit)) ⌝ }
 {
     let first = room::put_bytes(room, at, b"direct ");
@@ -70,7 +64,6 @@ fn put_direct(room: &mut [u8], at: usize, offset: OptOffset, rate: OptRate) -> u
 }
 
 fn put_clock(room: &mut [u8], at: usize, clock: MediaClock) -> usize
-    requires { ⌜ at + 87 ≤ 65536 ⌝ }
     ensures { λ r. ⌜ Put 87 (now (room .entry)) at (mediaNote clock) r (now (room .exit)) ⌝ }
 {
     match clock {

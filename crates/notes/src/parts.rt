@@ -1,12 +1,10 @@
 // What the records of both attributes share: a place, and an extension's name and value.
-ghost use Prim.Native.Nat.{_+_, _≤_};
 ghost use Rattle.room.specs.Put.{Put};
 ghost use Rattle.notes.specs.Notation.{placeNote, valueNote, extensionNote};
 use clock::OptValue;
 use text::Place;
 
 pub(crate) fn put_place(room: &mut [u8], at: usize, p: Place) -> usize
-    requires { ⌜ at + 41 ≤ 65536 ⌝ }
     ensures { λ r. ⌜ Put 41 (now (room .entry)) at (placeNote p) r (now (room .exit)) ⌝ }
 {
     let plus = room::put_decimal_u64(room, at, p.start as u64);
@@ -15,7 +13,6 @@ pub(crate) fn put_place(room: &mut [u8], at: usize, p: Place) -> usize
 }
 
 fn put_value(room: &mut [u8], at: usize, value: OptValue) -> usize
-    requires { ⌜ at + 41 ≤ 65536 ⌝ }
     ensures { λ r. ⌜ Put 41 (now (room .entry)) at (valueNote value) r (now (room .exit)) ⌝ }
 {
     match value {
@@ -25,7 +22,6 @@ fn put_value(room: &mut [u8], at: usize, value: OptValue) -> usize
 }
 
 pub(crate) fn put_extension(room: &mut [u8], at: usize, name: Place, value: OptValue) -> usize
-    requires { ⌜ at + 87 ≤ 65536 ⌝ }
     ensures { λ r. ⌜ Put 87 (now (room .entry)) at (extensionNote name value) r (now (room .exit)) ⌝ }
 {
     let first = room::put_bytes(room, at, b"ext ");

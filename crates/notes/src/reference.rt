@@ -1,5 +1,4 @@
 // The notation of a ts-refclk record. A local that holds a place in the room is named by what is put there.
-ghost use Prim.Native.Nat.{_+_, _≤_};
 ghost use Rattle.room.specs.Put.{Put};
 ghost use Rattle.notes.specs.Notation.{portNote, ntpNote, versionNote, domainNote, optDomainNote, serverNote, ptpNote, privateNote, referenceClockNote};
 use crate::parts;
@@ -13,7 +12,6 @@ use clock::PtpVersion;
 use clock::ReferenceClock;
 
 fn put_port(room: &mut [u8], at: usize, port: OptPort) -> usize
-    requires { ⌜ at + 10 ≤ 65536 ⌝ }
     ensures { λ r. ⌜ Put 10 (now (room .entry)) at (portNote port) r (now (room .exit)) ⌝ }
 {
     match port {
@@ -23,7 +21,6 @@ fn put_port(room: &mut [u8], at: usize, port: OptPort) -> usize
 }
 
 fn put_ntp(room: &mut [u8], at: usize, server: NtpServerAddr) -> usize
-    requires { ⌜ at + 56 ≤ 65536 ⌝ }
     ensures { λ r. ⌜ Put 56 (now (room .entry)) at (ntpNote server) r (now (room .exit)) ⌝ }
 {
     match server {
@@ -38,7 +35,6 @@ fn put_ntp(room: &mut [u8], at: usize, server: NtpServerAddr) -> usize
 }
 
 fn put_version(room: &mut [u8], at: usize, version: PtpVersion) -> usize
-    requires { ⌜ at + 41 ≤ 65536 ⌝ }
     ensures { λ r. ⌜ Put 41 (now (room .entry)) at (versionNote version) r (now (room .exit)) ⌝ }
 {
     match version {
@@ -50,7 +46,6 @@ fn put_version(room: &mut [u8], at: usize, version: PtpVersion) -> usize
 }
 
 fn put_domain(room: &mut [u8], at: usize, domain: PtpDomain) -> usize
-    requires { ⌜ at + 46 ≤ 65536 ⌝ }
     ensures { λ r. ⌜ Put 46 (now (room .entry)) at (domainNote domain) r (now (room .exit)) ⌝ }
 {
     match domain {
@@ -66,7 +61,6 @@ fn put_domain(room: &mut [u8], at: usize, domain: PtpDomain) -> usize
 }
 
 fn put_opt_domain(room: &mut [u8], at: usize, domain: OptDomain) -> usize
-    requires { ⌜ at + 46 ≤ 65536 ⌝ }
     ensures { λ r. ⌜ Put 46 (now (room .entry)) at (optDomainNote domain) r (now (room .exit)) ⌝ }
 {
     match domain {
@@ -76,7 +70,6 @@ fn put_opt_domain(room: &mut [u8], at: usize, domain: OptDomain) -> usize
 }
 
 fn put_server(room: &mut [u8], at: usize, server: PtpServer) -> usize
-    requires { ⌜ at + 63 ≤ 65536 ⌝ }
     ensures { λ r. ⌜ Put 63 (now (room .entry)) at (serverNote server) r (now (room .exit)) ⌝ }
 {
     match server {
@@ -90,7 +83,6 @@ fn put_server(room: &mut [u8], at: usize, server: PtpServer) -> usize
 }
 
 fn put_ptp(room: &mut [u8], at: usize, version: PtpVersion, server: PtpServer) -> usize
-    requires { ⌜ at + 109 ≤ 65536 ⌝ }
     ensures { λ r. ⌜ Put 109 (now (room .entry)) at (ptpNote version server) r (now (room .exit)) ⌝ }
 {
     let first = room::put_bytes(room, at, b"ptp ");
@@ -100,7 +92,6 @@ fn put_ptp(room: &mut [u8], at: usize, version: PtpVersion, server: PtpServer) -
 }
 
 fn put_private(room: &mut [u8], at: usize, source: PrivateSource) -> usize
-    requires { ⌜ at + 17 ≤ 65536 ⌝ }
     ensures { λ r. ⌜ Put 17 (now (room .entry)) at (privateNote source) r (now (room .exit)) ⌝ }
 {
     match source {

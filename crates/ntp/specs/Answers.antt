@@ -1,4 +1,5 @@
 -- The paper's answer for every case of each answer of this crate.
+use mathlib.Core.Path.{_≡_}
 use Rattle.clock.specs.declared.OptPort.{OptPort}
 use Rattle.clock.specs.declared.NtpServerAddr.{NtpServerAddr}
 use Rattle.meaning.specs.Answer.{Answer, accepted, refused}
@@ -14,3 +15,7 @@ portAnswer (port.Refused r) = refused r
 abbrev pub ntpAnswer : NtpRead → Answer NtpServerAddr
 ntpAnswer (ntp.Accepted s) = accepted s
 ntpAnswer (ntp.Refused r) = refused r
+
+-- no two answers stand for one of the paper's: one alone meets the contract of `read_ntp`. `proofs/Settled.antt` proves it
+abbrev pub NtpSettled : Type 0
+NtpSettled = (q r : NtpRead) → ntpAnswer q ≡ ntpAnswer r → q ≡ r

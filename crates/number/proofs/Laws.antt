@@ -26,7 +26,7 @@ pub above : (a z b : ℕ) → z < b → between a z b ≡ false
 above a z b h = simp (lt-leb b z h, and-false)
 
 -- more digits never make the value less
-grows : (v : ℕ) (s : List ℕ) → v ≤ valueFrom v s
+pub grows : (v : ℕ) (s : List ℕ) → v ≤ valueFrom v s
 unfolding valueFrom
 grows v [] = omega arith
 grows v (b ∷ s) = omega (arith, grows (v * 10 + (b - 48)) s)

@@ -68,7 +68,7 @@ unfolding decimal
 decimal-digits n h = digits-in 19 n (omega arith)
 
 -- digits read as their number
-no-plus : (s : List ℕ) → allDigits s ≡ true → afterPlus s ≡ s
+pub no-plus : (s : List ℕ) → allDigits s ≡ true → afterPlus s ≡ s
 unfolding allDigits
 no-plus [] h = refl
 no-plus (b ∷ s) h =

@@ -1,4 +1,5 @@
 -- The paper's answer for every case of each answer of this crate.
+use mathlib.Core.Path.{_≡_}
 use Rattle.clock.specs.Refusal.{refusal}
 use Rattle.clock.specs.declared.Refusal.{Refusal}
 use Rattle.clock.specs.declared.PtpVersion.{PtpVersion}
@@ -35,3 +36,7 @@ serverAnswer (server.Refused r) = refused r
 abbrev pub ptpAnswer : PtpRead → Answer Ptp
 ptpAnswer (ptp.Accepted p) = accepted p
 ptpAnswer (ptp.Refused r) = refused r
+
+-- no two answers stand for one of the paper's: one alone meets the contract of `read_ptp`. `proofs/Settled.antt` proves it
+abbrev pub PtpSettled : Type 0
+PtpSettled = (q r : PtpRead) → ptpAnswer q ≡ ptpAnswer r → q ≡ r

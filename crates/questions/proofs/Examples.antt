@@ -19,8 +19,8 @@ use Rattle.meaning.specs.Domain.{bare, bareRead}
 use Rattle.meaning.specs.ReferenceClock.{portOf, addressOf, bracketOf, hostOf, ntpOf, versionOf, gmidOf, domainOf, serverOf, ptpOf, clockOf, asReferenceClockRead}
 use Rattle.meaning.specs.Meaning.{refMeaning}
 use Rattle.meaning.proofs.Rows.{short, ref-plain, each-where}
-use Rattle.equal.specs.Said.{clockSays}
-use Rattle.equal.specs.Alike.{sameNumbers, sameBehind, alikeSaid, alike, hostsAlike}
+use Rattle.equal.specs.Said.{clockSays, sameNumbers, sameBehind, alikeSaid}
+use Rattle.equal.specs.Alike.{alike, hostsAlike}
 use Rattle.questions.specs.SameClock.{bothAlike, sameClock}
 use Rattle.questions.specs.Governing.{gmidPlace, namePlace, readPlace, clockPlace}
 use Rattle.questions.specs.Examples.{ofPair, pairs, places}

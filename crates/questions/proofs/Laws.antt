@@ -1,6 +1,6 @@
 -- One law for each way out of the crate's functions. Assumes nothing.
 use Prim.Native.Nat.{ℕ, _+_, _≤_}
-use mathlib.Core.Path.{_≡_, refl, sym, _∙_}
+use mathlib.Core.Path.{_≡_, sym, _∙_}
 use mathlib.Core.List.{List, [], _∷_}
 use mathlib.Core.Bool.{Bool, false}
 use native.Mathlib.Omega.{arith}
@@ -14,6 +14,7 @@ use borrow.Author.Tests.{eq-eqb, ne-eqb}
 use Rattle.text.specs.Find.{before}
 use Rattle.text.specs.Place.{place, bytesAt, Lent, PartAt}
 use Rattle.text.specs.declared.Place.{Place}
+use Rattle.text.proofs.Bools.{clash}
 use Rattle.text.proofs.Cuts.{before-le}
 use Rattle.clock.specs.declared.Refusal.{Refusal}
 use Rattle.clock.specs.declared.OptPort.{OptPort}
@@ -36,24 +37,34 @@ use Rattle.meaning.proofs.Spelling.{bare-lawful}
 use Rattle.meaning.proofs.Reference.{ref-fits}
 use Rattle.meaning.proofs.Demand3.{ref-answer}
 use Rattle.meaning.specs.Meaning.{refMeaning}
-use Rattle.equal.specs.Alike.{alike, hostsAlike}
-use Rattle.questions.specs.SameClock.{sameClock}
+use Rattle.equal.specs.Decides.{Decides}
+use Rattle.equal.specs.Alike.{OneClock, hostsAlike}
+use Rattle.questions.specs.SameClock.{SameClock}
 use Rattle.questions.specs.Governing.{whole, gmidPlace, ntpName, ptpName, namePlace, clockPlace, governor, Governing}
+
+-- what is not so is decided by no
+decides-not : (P : Type 0) → (P → ⊥) → Decides false P
+decides-not P h = record { right = λ e. clash (cc); found = λ p. absurd (h p) }
 
 -- `same_clock`
 module _ (v w : List ℕ) (x : ReferenceClockRead) (ex : x ≡ readReferenceClock v) where
-  pub first-refused : (r : Refusal) → x ≡ Refused r → false ≡ sameClock v w
-  unfolding sameClock
-  first-refused r e = simp (← ex, e)
+  pub first-refused : (r : Refusal) → x ≡ Refused r → Decides false (SameClock v w)
+  first-refused r e = decides-not (SameClock v w) (λ s. clash (cc (ex, e, s .is-first)))
 
   module _ (c : ReferenceClock) (e : x ≡ Accepted c) (y : ReferenceClockRead) (ey : y ≡ readReferenceClock w) where
-    pub second-refused : (r : Refusal) → y ≡ Refused r → false ≡ sameClock v w
-    unfolding sameClock
-    second-refused r f = simp (← ex, e, ← ey, f)
+    pub second-refused : (r : Refusal) → y ≡ Refused r → Decides false (SameClock v w)
+    second-refused r f = decides-not (SameClock v w) (λ s. clash (cc (ey, f, s .is-second)))
 
-    pub both-accepted : (d : ReferenceClock) → y ≡ Accepted d → (r : Bool) → r ≡ alike hostsAlike (refMeaning v c) (refMeaning w d) → r ≡ sameClock v w
-    unfolding sameClock
-    both-accepted d f r er = simp (← ex, e, ← ey, f, er)
+    pub both-accepted : (d : ReferenceClock) → y ≡ Accepted d → (r : Bool) → Decides r (OneClock hostsAlike (refMeaning v c) (refMeaning w d))
+        → Decides r (SameClock v w)
+    both-accepted d f r h =
+        record {
+          right = λ k. record { first = c; second = d; is-first = sym ex ∙ e; is-second = sym ey ∙ f; one = h .right k };
+          found = λ s.
+              let a : s .first ≡ c = cc (ex, e, s .is-first) in
+              let b : s .second ≡ d = cc (ey, f, s .is-second) in
+              h .found (rw (a, b) at (s .one));
+        }
 
 -- `gmid_place`
 pub colon-fits : (v : List ℕ) (i : ℕ) → length v ≤ 1024 → i ≡ before 58 v → Fits w64 (i + 1)

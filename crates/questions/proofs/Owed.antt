@@ -1,4 +1,4 @@
--- The same-clock question is an equivalence on accepted values and means equal records; the GMID stands at its place. Assumes nothing.
+-- The same-clock question is an equivalence on accepted values and means equal records; the GMID stands at its place; one part governs. Assumes nothing.
 use Prim.Native.Nat.{ℕ, _+_}
 use mathlib.Core.Path.{_≡_, refl, sym, ap, _∙_}
 use mathlib.Core.List.{List}
@@ -11,6 +11,7 @@ use Rattle.text.specs.Word.{word, same, starts}
 use Rattle.text.specs.Place.{bytesAt}
 use Rattle.text.proofs.Bools.{by-bool, clash}
 use Rattle.text.proofs.Cuts.{before-append}
+use Rattle.text.proofs.Parts.{part-settled}
 use Rattle.eui64.specs.Eui64.{eui64Of}
 use Rattle.eui64.specs.declared.Eui64Read.the-variants.{Id}
 use Rattle.clock.specs.Refusal.{refusal}
@@ -31,87 +32,71 @@ use Rattle.meaning.specs.Meaning.{refMeaning}
 use Rattle.meaning.proofs.Told.{through, was-accepted, was-made, starts-cut, further}
 use Rattle.meaning.proofs.Ptp.{was-gmid}
 use Rattle.meaning.proofs.Demand3.{ref-answer}
-use Rattle.equal.specs.Alike.{alike, hostsAlike}
+use Rattle.equal.specs.Decides.{Decides}
+use Rattle.equal.specs.Alike.{OneClock, equal, hostsAlike}
 use Rattle.equal.specs.Equality.{Equivalence}
-use Rattle.equal.proofs.Equality.{clocks-equal, classes}
-use Rattle.questions.specs.SameClock.{bothAlike, sameClock}
-use Rattle.questions.specs.Governing.{gmidPlace}
-use Rattle.questions.specs.Owed.{Classes, SameIsEqual, GmidThere}
+use Rattle.equal.proofs.Equality.{one-equal, alike-decides, classes}
+use Rattle.questions.specs.SameClock.{SameClock, bothAlike, sameClock}
+use Rattle.questions.specs.Governing.{gmidPlace, clockPlace, governor, GoverningSettled}
+use Rattle.questions.specs.Owed.{Classes, SameIsEqual, SameClockDecides, GmidThere}
+use Rattle.questions.proofs.Laws.{first-refused, second-refused, both-accepted}
 
--- both values are accepted, and the records are alike
-record Both (v w : List ℕ) : Type 0 where
-  pub first : ReferenceClock
-  pub second : ReferenceClock
-  pub is-first : readReferenceClock v ≡ Accepted first
-  pub is-second : readReferenceClock w ≡ Accepted second
-  pub like : alike hostsAlike (refMeaning v first) (refMeaning w second) ≡ true
+pub same-clock-decides : SameClockDecides
+unfolding sameClock
+same-clock-decides v w = go (readReferenceClock v) (readReferenceClock w) refl refl
+  where
+    go : (x y : ReferenceClockRead) → x ≡ readReferenceClock v → y ≡ readReferenceClock w → Decides (bothAlike v x w y) (SameClock v w)
+    go (Accepted c) (Accepted d) e f =
+        both-accepted v w (Accepted c) e c refl (Accepted d) f d refl _
+        (alike-decides hostsAlike (classes .of-hosts) (refMeaning v c) (refMeaning w d))
+    go (Accepted c) (Refused r) e f = second-refused v w (Accepted c) e c refl (Refused r) f r refl
+    go (Refused r) y e f = first-refused v w (Refused r) e r refl
 
-module _ (v w : List ℕ) where
-  same-gives : sameClock v w ≡ true → Both v w
-  unfolding sameClock
-  same-gives h = go (readReferenceClock v) (readReferenceClock w) refl refl h
-    where
-      go : (x y : ReferenceClockRead) → readReferenceClock v ≡ x → readReferenceClock w ≡ y → bothAlike v x w y ≡ true → Both v w
-      go (Accepted c) (Accepted d) e f h = record { first = c; second = d; is-first = e; is-second = f; like = h }
-      go (Accepted c) (Refused r) e f h = clash (cc)
-      go (Refused r) y e f h = clash (cc)
-
-  same-from : Both v w → sameClock v w ≡ true
-  unfolding sameClock
-  same-from b = simp (b .is-first, b .is-second, b .like)
-
-like : Equivalence (alike hostsAlike)
+like : Equivalence (OneClock hostsAlike)
 like = classes .of-clocks hostsAlike (classes .of-hosts)
 
 pub same-classes : Classes
 same-classes =
     record {
-      to-self = λ v c e. same-from v v (record { first = c; second = c; is-first = e; is-second = e; like = like .to-self (refMeaning v c) });
-      back = λ v w h.
-          let b = same-gives v w h in
-          same-from w v
-          (record {
+      to-self = λ v c e. record { first = c; second = c; is-first = e; is-second = e; one = like .to-self (refMeaning v c) };
+      back = λ v w b.
+          record {
             first = b .second;
             second = b .first;
             is-first = b .is-second;
             is-second = b .is-first;
-            like = like .back (refMeaning v (b .first)) (refMeaning w (b .second)) (b .like);
-          });
-      on = λ v w x h k.
-          let b = same-gives v w h in
-          let d = same-gives w x k in
+            one = like .back (refMeaning v (b .first)) (refMeaning w (b .second)) (b .one);
+          };
+      on = λ v w x b d.
           let e : b .second ≡ d .first = cc (b .is-second, d .is-first) in
-          same-from v x
-          (record {
+          record {
             first = b .first;
             second = d .second;
             is-first = b .is-first;
             is-second = d .is-second;
-            like = like .on (refMeaning v (b .first)) (refMeaning w (d .first)) (refMeaning x (d .second)) (rw e at (b .like)) (d .like);
-          });
+            one = like .on (refMeaning v (b .first)) (refMeaning w (d .first)) (refMeaning x (d .second)) (rw e at (b .one)) (d .one);
+          };
     }
 
 pub same-is-equal : SameIsEqual
 unfolding hostsAlike
 same-is-equal v w = (
-  λ h.
-      let b = same-gives v w h in
+  λ b.
       record {
         first = b .first;
         second = b .second;
         is-first = b .is-first;
         is-second = b .is-second;
-        equal = clocks-equal (refMeaning v (b .first)) (refMeaning w (b .second)) .0 (b .like);
+        equal = one-equal (refMeaning v (b .first)) (refMeaning w (b .second)) (b .one);
       },
   λ b.
-      same-from v w
-      (record {
+      record {
         first = b .first;
         second = b .second;
         is-first = b .is-first;
         is-second = b .is-second;
-        like = clocks-equal (refMeaning v (b .first)) (refMeaning w (b .second)) .1 (b .equal);
-      }),
+        one = equal (b .equal);
+      },
 )
 
 -- the server's GMID is what stands before its first colon
@@ -200,3 +185,6 @@ gmid-there v x g d h =
     let n : before 58 v + 1 ≡ 4 + (i + 1) = omega (arith, first-colon v (p .begins)) in
     rw (n, further v 4 (i + 1) (drop 4 v) refl)
     (server-gmid (4 + (i + 1)) (drop (i + 1) (drop 4 v)) g d (ptp-server 4 (drop 4 v) (made.ptp x (GmidDomain g d)) (p .source)))
+
+pub governing-settled : GoverningSettled
+governing-settled session media = let v = governor session media in part-settled v (clockPlace (v .now))

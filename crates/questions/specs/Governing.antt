@@ -6,7 +6,7 @@ use mathlib.Core.Bool.{cond}
 use lib.Dec.{eqb}
 use lib.ListN.{length, drop}
 use Rattle.text.specs.Find.{before}
-use Rattle.text.specs.Place.{place, Lent, PartAt}
+use Rattle.text.specs.Place.{place, Lent, PartAt, OnePart}
 use Rattle.text.specs.declared.Place.{Place}
 use Rattle.clock.specs.declared.NtpServerAddr.{NtpServerAddr}
 use Rattle.clock.specs.declared.NtpServerAddr.the-variants as server
@@ -61,3 +61,7 @@ governor session media = cond (eqb (length (media .now)) 0) session media
 -- r is that part of the value that governs, in its memory
 abbrev pub Governing : Lent → Lent → Lent → Type 0
 Governing session media r = PartAt (governor session media) (clockPlace (governor session media .now)) r
+
+-- so much is settled: two answers are one part of it. `proofs/Owed.antt` proves it
+abbrev pub GoverningSettled : Type 0
+GoverningSettled = (session media q r : Lent) → Governing session media q → Governing session media r → OnePart q r

@@ -3,7 +3,6 @@ use Prim.Native.Nat.{ℕ}
 use mathlib.Core.Path.{_≡_}
 use mathlib.Core.Logic.{_↔_}
 use mathlib.Core.List.{List}
-use mathlib.Core.Bool.{true}
 use Rattle.text.specs.Place.{bytesAt}
 use Rattle.eui64.specs.Eui64.{eui64Of}
 use Rattle.eui64.specs.declared.Eui64Read.the-variants.{Id}
@@ -17,14 +16,15 @@ use Rattle.clock.specs.declared.ReferenceClock.the-variants.{Ptp}
 use Rattle.clock.specs.declared.ReferenceClockRead.the-variants.{Accepted}
 use Rattle.meaning.specs.ReferenceClock.{readReferenceClock}
 use Rattle.meaning.specs.Demand3.{SameReferenceClock}
-use Rattle.questions.specs.SameClock.{sameClock}
+use Rattle.equal.specs.Decides.{Decides}
+use Rattle.questions.specs.SameClock.{SameClock, sameClock}
 use Rattle.questions.specs.Governing.{gmidPlace}
 
 -- the same-clock question sorts accepted values into classes
 pub record Classes : Type 0 where
-  pub to-self : (v : List ℕ) (c : ReferenceClock) → readReferenceClock v ≡ Accepted c → sameClock v v ≡ true
-  pub back : (v w : List ℕ) → sameClock v w ≡ true → sameClock w v ≡ true
-  pub on : (v w x : List ℕ) → sameClock v w ≡ true → sameClock w x ≡ true → sameClock v x ≡ true
+  pub to-self : (v : List ℕ) (c : ReferenceClock) → readReferenceClock v ≡ Accepted c → SameClock v v
+  pub back : (v w : List ℕ) → SameClock v w → SameClock w v
+  pub on : (v w x : List ℕ) → SameClock v w → SameClock w x → SameClock v x
 
 -- both values are accepted, and the records are equal
 pub record EqualRecords (v w : List ℕ) : Type 0 where
@@ -35,7 +35,11 @@ pub record EqualRecords (v w : List ℕ) : Type 0 where
   pub equal : SameReferenceClock v first w second
 
 abbrev pub SameIsEqual : Type 0
-SameIsEqual = (v w : List ℕ) → (sameClock v w ≡ true) ↔ EqualRecords v w
+SameIsEqual = (v w : List ℕ) → SameClock v w ↔ EqualRecords v w
+
+-- the test decides it
+abbrev pub SameClockDecides : Type 0
+SameClockDecides = (v w : List ℕ) → Decides (sameClock v w) (SameClock v w)
 
 -- the text at the GMID's place is the GMID: it reads as the record's
 abbrev pub GmidThere : Type 0

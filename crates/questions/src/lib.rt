@@ -2,7 +2,8 @@
 ghost use mathlib.Core.Path.{_≡_};
 ghost use Prim.Native.Nat.{_≤_};
 ghost use lib.ListN.{length};
-ghost use Rattle.questions.specs.SameClock.{sameClock};
+ghost use Rattle.equal.specs.Decides.{Decides};
+ghost use Rattle.questions.specs.SameClock.{SameClock};
 ghost use Rattle.questions.specs.Governing.{whole, gmidPlace, ntpName, ptpName, namePlace, clockPlace, Governing};
 ghost use Rattle.text.specs.Place.{PartAt};
 use clock::NtpServerAddr;
@@ -13,7 +14,7 @@ use text::Place;
 
 // Whether two values name the same clock.
 pub fn same_clock(a: &[u8], b: &[u8]) -> bool
-    ensures { λ r. ⌜ r ≡ sameClock (now (a .entry)) (now (b .entry)) ⌝ }
+    ensures { λ r. ⌜ Decides r (SameClock (now (a .entry)) (now (b .entry))) ⌝ }
 {
     let first = refclk::read_reference_clock(a);
     let ReferenceClockRead::Accepted(c) = first else {

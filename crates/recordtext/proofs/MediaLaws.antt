@@ -1,5 +1,5 @@
 -- One law for each way out of the functions that write mediaclk. Assumes nothing.
-use Prim.Native.Nat.{ℕ, _+_, _*_}
+use Prim.Native.Nat.{ℕ, _+_, _*_, _^_, _<_}
 use mathlib.Core.Path.{_≡_}
 use mathlib.Core.List.{List, [], _∷_, _++_}
 use mathlib.Core.Bool.{Bool, true, false, cond}
@@ -41,8 +41,8 @@ module _ (v : List ℕ) {l : List ℕ} {at : ℕ} where
     tag-plain e f = rw e (put-wider f (omega arith))
 
   module _ (x : OptId) where
-    pub id-none : x ≡ NoId → Put (length v + 8) l at (idText (idMeans v x)) at l
-    id-none e = rw e (put-wider (put-none l at) (omega arith))
+    pub id-none : x ≡ NoId → at < 2 ^ 64 → length l < 2 ^ 64 → Put (length v + 8) l at (idText (idMeans v x)) at l
+    id-none e h k = rw e (put-wider (put-none l at h k) (omega arith))
 
     pub id-some : {a b last : ℕ} {m n r : List ℕ} (d : MediaClockId) → x ≡ SomeId d → Put 3 l at (word "id=") a m
         → Put (length v + 4) m a (tagText (cond (d .src) (srcTag (bytesAt (d .tag) v)) (plainTag (bytesAt (d .tag) v)))) b n
@@ -53,16 +53,16 @@ module _ (v : List ℕ) {l : List ℕ} {at : ℕ} where
 -- `put_offset`, `put_rate`, `put_direct`
 module _ {l : List ℕ} {at : ℕ} where
   module _ (x : OptOffset) where
-    pub offset-none : x ≡ NoOffset → Put 11 l at (offsetText (offsetMeans x)) at l
-    offset-none e = rw e (put-wider (put-none l at) (omega arith))
+    pub offset-none : x ≡ NoOffset → at < 2 ^ 64 → length l < 2 ^ 64 → Put 11 l at (offsetText (offsetMeans x)) at l
+    offset-none e h k = rw e (put-wider (put-none l at h k) (omega arith))
 
     pub offset-some : {next last : ℕ} {m r : List ℕ} (n : ℕ) → x ≡ SomeOffset n → Put 1 l at (61 ∷ []) next m → Put 10 m next (decimal n) last r
         → Put 11 l at (offsetText (offsetMeans x)) last r
     offset-some n e f g = rw e (put-then f g)
 
   module _ (x : OptRate) where
-    pub rate-none : x ≡ NoRate → Put 27 l at (rateText (rateMeans x)) at l
-    rate-none e = rw e (put-wider (put-none l at) (omega arith))
+    pub rate-none : x ≡ NoRate → at < 2 ^ 64 → length l < 2 ^ 64 → Put 27 l at (rateText (rateMeans x)) at l
+    rate-none e h k = rw e (put-wider (put-none l at h k) (omega arith))
 
     pub rate-some : {a b c last : ℕ} {k m n r : List ℕ} (q : Rate) → x ≡ SomeRate q → Put 6 l at (word " rate=") a k
         → Put 10 k a (decimal (q .numerator)) b m → Put 1 m b (47 ∷ []) c n → Put 10 n c (decimal (q .denominator)) last r

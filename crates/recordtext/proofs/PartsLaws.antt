@@ -1,5 +1,5 @@
 -- One law for each way out of the functions that the writers of both attributes share. Assumes nothing.
-use Prim.Native.Nat.{ℕ, _+_, _*_}
+use Prim.Native.Nat.{ℕ, _+_, _*_, _^_, _<_}
 use mathlib.Core.Path.{_≡_}
 use mathlib.Core.List.{List, [], _∷_, _++_}
 use native.Mathlib.Omega.{arith}
@@ -15,8 +15,8 @@ use Rattle.room.proofs.Laws.{put-none, put-then, put-wider}
 
 -- `put_value`
 module _ (v : List ℕ) (x : OptValue) {l : List ℕ} {at : ℕ} where
-  pub value-none : x ≡ NoValue → Put (length v + 1) l at (valueText (valueMeans v x)) at l
-  value-none e = rw e (put-wider (put-none l at) (omega arith))
+  pub value-none : x ≡ NoValue → at < 2 ^ 64 → length l < 2 ^ 64 → Put (length v + 1) l at (valueText (valueMeans v x)) at l
+  value-none e h k = rw e (put-wider (put-none l at h k) (omega arith))
 
   pub value-some : {next last : ℕ} {m r : List ℕ} (p : Place) → x ≡ SomeValue p → Put 1 l at (61 ∷ []) next m
       → Put (length v) m next (bytesAt p v) last r

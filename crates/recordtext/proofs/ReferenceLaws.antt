@@ -1,5 +1,5 @@
 -- One law for each way out of the functions that write ts-refclk. Assumes nothing.
-use Prim.Native.Nat.{ℕ, _+_, _*_, _≤_, _<_}
+use Prim.Native.Nat.{ℕ, _+_, _*_, _^_, _≤_, _<_}
 use mathlib.Core.Path.{_≡_}
 use mathlib.Core.List.{List, [], _∷_, _++_}
 use mathlib.Core.Option.{some}
@@ -65,29 +65,24 @@ module _ {l : List ℕ} {at last : ℕ} {r : List ℕ} where
     host-with v o n e p = rw e p
 
 -- `put_ntp`: the host is the part at its place
-module _ (v : Lent) (x : NtpServerAddr) where
-  pub host-asks : (p : Place) (host : Lent) {at next : ℕ} {l m : List ℕ} → PartAt v p host → Put 4 l at (word "ntp=") next m
-      → at + (length (v .now) + 17) ≤ 65536 → next + (length (host .now) + 13) ≤ 65536
-  host-asks p host is f h = omega (arith, f .place, rw (← is .bytes) at (bytes-short p (v .now)))
+module _ (v : Lent) (x : NtpServerAddr) {l : List ℕ} {at last : ℕ} {r : List ℕ} where
+  pub ntp-host : {next : ℕ} {m : List ℕ} (p : Place) (o : OptPort) (host : Lent) → x ≡ server.HostPort p o → PartAt v p host
+      → Put 4 l at (word "ntp=") next m → Put (length (host .now) + 13) m next (hostText (host .now) (portMeans (host .now) o)) last r
+      → Put (length (v .now) + 17) l at (refMeaningText bare (ntpMeans (v .now) x)) last r
+  unfolding refMeaningText
+  ntp-host p o host e is f g =
+      let short : length (host .now) ≤ length (v .now) = rw (is .bytes) (bytes-short p (v .now)) in
+      rw (e, ← is .bytes) (put-wider (put-then f g) (omega arith))
 
-  module _ {l : List ℕ} {at last : ℕ} {r : List ℕ} where
-    pub ntp-host : {next : ℕ} {m : List ℕ} (p : Place) (o : OptPort) (host : Lent) → x ≡ server.HostPort p o → PartAt v p host
-        → Put 4 l at (word "ntp=") next m → Put (length (host .now) + 13) m next (hostText (host .now) (portMeans (host .now) o)) last r
-        → Put (length (v .now) + 17) l at (refMeaningText bare (ntpMeans (v .now) x)) last r
-    unfolding refMeaningText
-    ntp-host p o host e is f g =
-        let short : length (host .now) ≤ length (v .now) = rw (is .bytes) (bytes-short p (v .now)) in
-        rw (e, ← is .bytes) (put-wider (put-then f g) (omega arith))
-
-    pub ntp-traceable : x ≡ server.Traceable → Put 15 l at (word "ntp=/traceable/") last r
-        → Put (length (v .now) + 17) l at (refMeaningText bare (ntpMeans (v .now) x)) last r
-    unfolding refMeaningText
-    ntp-traceable e f = rw e (put-wider f (omega arith))
+  pub ntp-traceable : x ≡ server.Traceable → Put 15 l at (word "ntp=/traceable/") last r
+      → Put (length (v .now) + 17) l at (refMeaningText bare (ntpMeans (v .now) x)) last r
+  unfolding refMeaningText
+  ntp-traceable e f = rw e (put-wider f (omega arith))
 
 -- `put_opt_domain`, where there is none
-pub domain-none : (v : List ℕ) (x : OptDomain) {l : List ℕ} {at : ℕ} → x ≡ NoDomain
+pub domain-none : (v : List ℕ) (x : OptDomain) {l : List ℕ} {at : ℕ} → x ≡ NoDomain → at < 2 ^ 64 → length l < 2 ^ 64
     → Put (length v + 11) l at (domainText bare (optDomainMeans v x)) at l
-domain-none v x {l} {at} e = rw e (put-wider (put-none l at) (omega arith))
+domain-none v x {l} {at} e h k = rw e (put-wider (put-none l at h k) (omega arith))
 
 -- `put_ieee1588`
 pub ieee1588-put : (b : ℕ) {at a last : ℕ} {l k r : List ℕ} → Put 12 l at (word "IEEE1588-200") a k → Put 1 k a (b ∷ []) last r
@@ -207,7 +202,6 @@ pub ruleset laws = (
   host-plain,
   host-alone,
   host-with,
-  host-asks,
   ntp-host,
   ntp-traceable,
   ieee1588-put,

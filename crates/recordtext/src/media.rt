@@ -1,6 +1,6 @@
 // The text of a mediaclk record. A local that holds a place in the room is named by what is put there.
 ghost use mathlib.Core.Bool.{cond};
-ghost use Prim.Native.Nat.{_+_, _*_, _≤_};
+ghost use Prim.Native.Nat.{_+_, _*_};
 ghost use lib.ListN.{length};
 ghost use Rattle.text.specs.Place.{bytesAt};
 ghost use Rattle.meaning.specs.Meaning.{srcTag, plainTag, direct, offsetMeans, rateMeans, idMeans, mediaMeans};
@@ -16,8 +16,8 @@ use text::Place;
 
 // `src:` where it is there, and the tag.
 fn put_tag(room: &mut [u8], at: usize, value: &[u8], src: bool, tag: Place) -> usize
-    requires { ⌜ at + (length (now value) + 4) ≤ 65536 ⌝ }
-    ensures { λ r. ⌜ Put (length (now (value .entry)) + 4) (now (room .entry)) at (tagText (cond src (srcTag (bytesAt tag (now (value .entry)))) (plainTag (bytesAt tag (now (value .entry)))))) r (now (room .exit)) ⌝ }
+    ensures { λ r. ⌜ Put (length (now (value .entry)) + 4) (now (room .entry)) at
+        (tagText (cond src (srcTag (bytesAt tag (now (value .entry)))) (plainTag (bytesAt tag (now (value .entry)))))) r (now (room .exit)) ⌝ }
 {
     if src {
         let to = room::put_bytes(room, at, b"src:");
@@ -27,7 +27,6 @@ fn put_tag(room: &mut [u8], at: usize, value: &[u8], src: bool, tag: Place) -> u
 }
 
 fn put_id(room: &mut [u8], at: usize, value: &[u8], id: OptId) -> usize
-    requires { ⌜ at + (length (now value) + 8) ≤ 65536 ⌝ }
     ensures { λ r. ⌜ Put (length (now (value .entry)) + 8) (now (room .entry)) at (idText (idMeans (now (value .entry)) id)) r (now (room .exit)) ⌝ }
 {
     match id {
@@ -43,7 +42,6 @@ fn put_id(room: &mut [u8], at: usize, value: &[u8], id: OptId) -> usize
 }
 
 fn put_offset(room: &mut [u8], at: usize, offset: OptOffset) -> usize
-    requires { ⌜ at + 11 ≤ 65536 ⌝ }
     ensures { λ r. ⌜ Put 11 (now (room .entry)) at (offsetText (offsetMeans offset)) r (now (room .exit)) ⌝ }
 {
     match offset {
@@ -56,7 +54,6 @@ fn put_offset(room: &mut [u8], at: usize, offset: OptOffset) -> usize
 }
 
 fn put_rate(room: &mut [u8], at: usize, rate: OptRate) -> usize
-    requires { ⌜ at + 27 ≤ 65536 ⌝ }
     ensures { λ r. ⌜ Put 27 (now (room .entry)) at (rateText (rateMeans rate)) r (now (room .exit)) ⌝ }
 {
     match rate {
@@ -71,7 +68,6 @@ fn put_rate(room: &mut [u8], at: usize, rate: OptRate) -> usize
 }
 
 fn put_direct(room: &mut [u8], at: usize, offset: OptOffset, rate: OptRate) -> usize
-    requires { ⌜ at + 44 ≤ 65536 ⌝ }
     ensures { λ r. ⌜ Put 44 (now (room .entry)) at (mediaText (direct (offsetMeans offset) (rateMeans rate))) r (now (room .exit)) ⌝ }
 {
     let sign = room::put_bytes(room, at, b"direct");
@@ -80,8 +76,8 @@ fn put_direct(room: &mut [u8], at: usize, offset: OptOffset, rate: OptRate) -> u
 }
 
 fn put_clock(room: &mut [u8], at: usize, value: &[u8], clock: MediaClock) -> usize
-    requires { ⌜ at + (2 * length (now value) + 44) ≤ 65536 ⌝ }
-    ensures { λ r. ⌜ Put (2 * length (now (value .entry)) + 44) (now (room .entry)) at (mediaText (mediaMeans (now (value .entry)) clock)) r (now (room .exit)) ⌝ }
+    ensures { λ r. ⌜ Put (2 * length (now (value .entry)) + 44) (now (room .entry)) at
+        (mediaText (mediaMeans (now (value .entry)) clock)) r (now (room .exit)) ⌝ }
 {
     match clock {
         MediaClock::Sender => room::put_bytes(room, at, b"sender"),
@@ -103,8 +99,8 @@ fn put_clock(room: &mut [u8], at: usize, value: &[u8], clock: MediaClock) -> usi
 }
 
 pub fn put_source(room: &mut [u8], at: usize, value: &[u8], source: MediaClockSource) -> usize
-    requires { ⌜ at + (3 * length (now value) + 52) ≤ 65536 ⌝ }
-    ensures { λ r. ⌜ Put (3 * length (now (value .entry)) + 52) (now (room .entry)) at (mediaClockSourceText (now (value .entry)) source) r (now (room .exit)) ⌝ }
+    ensures { λ r. ⌜ Put (3 * length (now (value .entry)) + 52) (now (room .entry)) at
+        (mediaClockSourceText (now (value .entry)) source) r (now (room .exit)) ⌝ }
 {
     let id = source.id;
     let clock = source.clock;

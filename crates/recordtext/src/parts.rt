@@ -1,6 +1,6 @@
 // What the texts of both attributes share: an extension's name and value.
 ghost use mathlib.Core.List.{_++_};
-ghost use Prim.Native.Nat.{_+_, _*_, _≤_};
+ghost use Prim.Native.Nat.{_+_, _*_};
 ghost use lib.ListN.{length};
 ghost use Rattle.text.specs.Place.{bytesAt};
 ghost use Rattle.meaning.specs.Meaning.{valueMeans};
@@ -11,7 +11,6 @@ use text::Place;
 
 // `=` and the value, where there is one.
 fn put_value(room: &mut [u8], at: usize, value: &[u8], given: OptValue) -> usize
-    requires { ⌜ at + (length (now value) + 1) ≤ 65536 ⌝ }
     ensures { λ r. ⌜ Put (length (now (value .entry)) + 1) (now (room .entry)) at (valueText (valueMeans (now (value .entry)) given)) r (now (room .exit)) ⌝ }
 {
     match given {
@@ -30,8 +29,8 @@ pub(crate) fn put_extension(
     name: Place,
     given: OptValue,
 ) -> usize
-    requires { ⌜ at + (2 * length (now value) + 1) ≤ 65536 ⌝ }
-    ensures { λ r. ⌜ Put (2 * length (now (value .entry)) + 1) (now (room .entry)) at (bytesAt name (now (value .entry)) ++ valueText (valueMeans (now (value .entry)) given)) r (now (room .exit)) ⌝ }
+    ensures { λ r. ⌜ Put (2 * length (now (value .entry)) + 1) (now (room .entry)) at
+        (bytesAt name (now (value .entry)) ++ valueText (valueMeans (now (value .entry)) given)) r (now (room .exit)) ⌝ }
 {
     let to = room::put_part(room, at, value, name);
     put_value(room, to, value, given)

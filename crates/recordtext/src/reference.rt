@@ -1,7 +1,7 @@
 // The text of a ts-refclk record. A local that holds a place in the room is named by what is put there.
 ghost use mathlib.Core.List.{[], _∷_, _++_};
 ghost use mathlib.Core.Option.{some};
-ghost use Prim.Native.Nat.{_+_, _*_, _≤_};
+ghost use Prim.Native.Nat.{_+_, _*_};
 ghost use lib.ListN.{length};
 ghost use Rattle.text.specs.Word.{word};
 ghost use Rattle.number.specs.Decimal.{decimal};
@@ -20,7 +20,6 @@ use clock::PtpVersion;
 use clock::ReferenceClock;
 
 fn put_port(room: &mut [u8], at: usize, port: u16) -> usize
-    requires { ⌜ at + 11 ≤ 65536 ⌝ }
     ensures { λ r. ⌜ Put 11 (now (room .entry)) at (58 ∷ decimal port) r (now (room .exit)) ⌝ }
 {
     let to = room::put_byte(room, at, b':');
@@ -29,7 +28,6 @@ fn put_port(room: &mut [u8], at: usize, port: u16) -> usize
 
 // A host that has a colon stands in brackets before a port.
 fn put_host_and_port(room: &mut [u8], at: usize, host: &[u8], port: u16) -> usize
-    requires { ⌜ at + (length (now host) + 13) ≤ 65536 ⌝ }
     ensures { λ r. ⌜ Put (length (now (host .entry)) + 13) (now (room .entry)) at (hostText (now (host .entry)) (some port)) r (now (room .exit)) ⌝ }
 {
     if text::find(host, b':') < host.len() {
@@ -44,8 +42,8 @@ fn put_host_and_port(room: &mut [u8], at: usize, host: &[u8], port: u16) -> usiz
 
 // `portMeans` and `privateMeans` take a value and do not look at it.
 fn put_host(room: &mut [u8], at: usize, host: &[u8], port: OptPort) -> usize
-    requires { ⌜ at + (length (now host) + 13) ≤ 65536 ⌝ }
-    ensures { λ r. ⌜ Put (length (now (host .entry)) + 13) (now (room .entry)) at (hostText (now (host .entry)) (portMeans (now (host .entry)) port)) r (now (room .exit)) ⌝ }
+    ensures { λ r. ⌜ Put (length (now (host .entry)) + 13) (now (room .entry)) at
+        (hostText (now (host .entry)) (portMeans (now (host .entry)) port)) r (now (room .exit)) ⌝ }
 {
     match port {
         OptPort::NoPort => room::put_bytes(room, at, host),
@@ -54,8 +52,8 @@ fn put_host(room: &mut [u8], at: usize, host: &[u8], port: OptPort) -> usize
 }
 
 fn put_ntp(room: &mut [u8], at: usize, value: &[u8], server: NtpServerAddr) -> usize
-    requires { ⌜ at + (length (now value) + 17) ≤ 65536 ⌝ }
-    ensures { λ r. ⌜ Put (length (now (value .entry)) + 17) (now (room .entry)) at (refMeaningText bare (ntpMeans (now (value .entry)) server)) r (now (room .exit)) ⌝ }
+    ensures { λ r. ⌜ Put (length (now (value .entry)) + 17) (now (room .entry)) at
+        (refMeaningText bare (ntpMeans (now (value .entry)) server)) r (now (room .exit)) ⌝ }
 {
     match server {
         NtpServerAddr::HostPort { hostname, port } => {
@@ -68,7 +66,6 @@ fn put_ntp(room: &mut [u8], at: usize, value: &[u8], server: NtpServerAddr) -> u
 
 // The two versions of IEEE 1588, which differ in their last byte. Of two whole words the compiler makes a store for each byte.
 fn put_ieee1588(room: &mut [u8], at: usize, last: u8) -> usize
-    requires { ⌜ at + 13 ≤ 65536 ⌝ }
     ensures { λ r. ⌜ Put 13 (now (room .entry)) at (word "IEEE1588-200" ++ last ∷ []) r (now (room .exit)) ⌝ }
 {
     let to = room::put_bytes(room, at, b"IEEE1588-200");
@@ -76,8 +73,8 @@ fn put_ieee1588(room: &mut [u8], at: usize, last: u8) -> usize
 }
 
 fn put_version(room: &mut [u8], at: usize, value: &[u8], version: PtpVersion) -> usize
-    requires { ⌜ at + (length (now value) + 16) ≤ 65536 ⌝ }
-    ensures { λ r. ⌜ Put (length (now (value .entry)) + 16) (now (room .entry)) at (versionText (versionMeans (now (value .entry)) version)) r (now (room .exit)) ⌝ }
+    ensures { λ r. ⌜ Put (length (now (value .entry)) + 16) (now (room .entry)) at
+        (versionText (versionMeans (now (value .entry)) version)) r (now (room .exit)) ⌝ }
 {
     match version {
         PtpVersion::Ieee1588_2002 => put_ieee1588(room, at, b'2'),
@@ -89,8 +86,8 @@ fn put_version(room: &mut [u8], at: usize, value: &[u8], version: PtpVersion) ->
 
 // The one place where a domain is written.
 fn put_domain(room: &mut [u8], at: usize, value: &[u8], domain: PtpDomain) -> usize
-    requires { ⌜ at + (length (now value) + 10) ≤ 65536 ⌝ }
-    ensures { λ r. ⌜ Put (length (now (value .entry)) + 10) (now (room .entry)) at (bare .text (domainMeans (now (value .entry)) domain)) r (now (room .exit)) ⌝ }
+    ensures { λ r. ⌜ Put (length (now (value .entry)) + 10) (now (room .entry)) at
+        (bare .text (domainMeans (now (value .entry)) domain)) r (now (room .exit)) ⌝ }
 {
     match domain {
         PtpDomain::DomainName { name } => room::put_part(room, at, value, name),
@@ -99,8 +96,8 @@ fn put_domain(room: &mut [u8], at: usize, value: &[u8], domain: PtpDomain) -> us
 }
 
 fn put_opt_domain(room: &mut [u8], at: usize, value: &[u8], domain: OptDomain) -> usize
-    requires { ⌜ at + (length (now value) + 11) ≤ 65536 ⌝ }
-    ensures { λ r. ⌜ Put (length (now (value .entry)) + 11) (now (room .entry)) at (domainText bare (optDomainMeans (now (value .entry)) domain)) r (now (room .exit)) ⌝ }
+    ensures { λ r. ⌜ Put (length (now (value .entry)) + 11) (now (room .entry)) at
+        (domainText bare (optDomainMeans (now (value .entry)) domain)) r (now (room .exit)) ⌝ }
 {
     match domain {
         OptDomain::NoDomain => at,
@@ -112,8 +109,8 @@ fn put_opt_domain(room: &mut [u8], at: usize, value: &[u8], domain: OptDomain) -
 }
 
 fn put_server(room: &mut [u8], at: usize, value: &[u8], server: PtpServer) -> usize
-    requires { ⌜ at + (length (now value) + 34) ≤ 65536 ⌝ }
-    ensures { λ r. ⌜ Put (length (now (value .entry)) + 34) (now (room .entry)) at (serverText bare (serverMeans (now (value .entry)) server)) r (now (room .exit)) ⌝ }
+    ensures { λ r. ⌜ Put (length (now (value .entry)) + 34) (now (room .entry)) at
+        (serverText bare (serverMeans (now (value .entry)) server)) r (now (room .exit)) ⌝ }
 {
     match server {
         PtpServer::GmidDomain { gmid, domain } => {
@@ -131,8 +128,8 @@ fn put_ptp(
     version: PtpVersion,
     server: PtpServer,
 ) -> usize
-    requires { ⌜ at + (2 * length (now value) + 55) ≤ 65536 ⌝ }
-    ensures { λ r. ⌜ Put (2 * length (now (value .entry)) + 55) (now (room .entry)) at (refMeaningText bare (ptp (versionMeans (now (value .entry)) version) (serverMeans (now (value .entry)) server))) r (now (room .exit)) ⌝ }
+    ensures { λ r. ⌜ Put (2 * length (now (value .entry)) + 55) (now (room .entry)) at
+        (refMeaningText bare (ptp (versionMeans (now (value .entry)) version) (serverMeans (now (value .entry)) server))) r (now (room .exit)) ⌝ }
 {
     let first = room::put_bytes(room, at, b"ptp=");
     let colon = put_version(room, first, value, version);
@@ -141,7 +138,6 @@ fn put_ptp(
 }
 
 fn put_private(room: &mut [u8], at: usize, source: PrivateSource) -> usize
-    requires { ⌜ at + 17 ≤ 65536 ⌝ }
     ensures { λ r. ⌜ Put 17 (now (room .entry)) at (refMeaningText bare (privateMeans [] source)) r (now (room .exit)) ⌝ }
 {
     match source {
@@ -151,7 +147,6 @@ fn put_private(room: &mut [u8], at: usize, source: PrivateSource) -> usize
 }
 
 pub fn put_clock(room: &mut [u8], at: usize, value: &[u8], clock: ReferenceClock) -> usize
-    requires { ⌜ at + (2 * length (now value) + 55) ≤ 65536 ⌝ }
     ensures { λ r. ⌜ Put (2 * length (now (value .entry)) + 55) (now (room .entry)) at (referenceClockText (now (value .entry)) clock) r (now (room .exit)) ⌝ }
 {
     match clock {

@@ -9,8 +9,8 @@ use Rattle.text.proofs.Bools.{by-bool}
 use Rattle.report.specs.Lines.{withoutCr, endedFrom, openFrom, lastLine, linesOf}
 use Rattle.report.specs.Reply.{Reply, replyTo}
 use Rattle.report.specs.Report.{printed, totalsOf, totalsText, report}
-use Rattle.report.specs.Reader.{Reader, readerOf, counted, countedAll, feedText, fed, fedAll, closeText, session, joined}
-use Rattle.report.specs.Whole.{EachCounted, TotalsAdd, LastLineWhole, FirstBytesDecide, ReaderOfMore, ReaderOfAll, AnyCutting}
+use Rattle.report.specs.Reader.{Reader, readerOf, counted, countedAll, feedText, fed, fedAll, closeText, closed, session, joined}
+use Rattle.report.specs.Whole.{EachCounted, TotalsAdd, LastLineWhole, FirstBytesDecide, ReaderOfMore, ReaderOfAll, AnyCutting, ClosedTotals}
 use Rattle.report.specs.declared.Totals.{Totals}
 use Rattle.report.proofs.Lines.{open-append, ended-append, last-whole, ended-alike, last-alike, more-alike, first-alike, open-alike}
 use Rattle.report.proofs.Printed.{printed-append}
@@ -104,14 +104,20 @@ module _ (t : List ℕ) where
         )
 
   -- or the closing call
+  close-counts : length t ≤ 4294967295 → closed (readerOf t) .totals ≡ totalsOf (linesOf t)
+  unfolding readerOf closed linesOf
+  close-counts h =
+      let a = endedFrom [] t in
+      last-enough (totalsOf a) (take 4098 (openFrom [] t)) (openFrom [] t) open-cut .counts
+      ∙ counted-on a (lastLine (openFrom [] t)) (omega (arith, few-lines [] t))
+
   close-prints : length t ≤ 4294967295 → printed (endedFrom [] t) ++ closeText (readerOf t) ≡ report t
-  unfolding readerOf closeText report linesOf
+  unfolding readerOf closeText closed report linesOf
   close-prints h =
       let a = endedFrom [] t in
       let b = lastLine (openFrom [] t) in
       let e = last-enough (totalsOf a) (take 4098 (openFrom [] t)) (openFrom [] t) open-cut in
-      let few : length (a ++ b) < 2 ^ 32 = omega (arith, few-lines [] t) in
-      cc (e .prints, e .counts, counted-on a b few, printed-append a b, append-assoc (printed a) (printed b) (totalsText (totalsOf (a ++ b))))
+      cc (e .prints, close-counts h, printed-append a b, append-assoc (printed a) (printed b) (totalsText (totalsOf (a ++ b))))
 
 module _ (t s : List ℕ) (fragments : List (List ℕ)) where
   joined-on : (t ++ s) ++ joined fragments ≡ t ++ (s ++ joined fragments)
@@ -149,3 +155,7 @@ reader-of-all fragments h = reads-on [] fragments h
 pub any-cutting : AnyCutting
 unfolding endedFrom printed
 any-cutting fragments h = prints-on [] fragments h
+
+pub closed-totals : ClosedTotals
+closed-totals fragments h =
+    ap (λ (r : Reader). closed r .totals) (reads-on [] fragments h) ∙ close-counts (joined fragments) h

@@ -4,39 +4,34 @@ use Prim.Native.Nat.{ℕ}
 use mathlib.Core.Path.{_≡_, refl, ap, _∙_}
 use mathlib.Core.List.{List, [], _∷_, _++_}
 use mathlib.Core.Bool.{true}
-use lib.Dec.{leb}
-use lib.ListN.{length}
-use borrow.Author.Tests.{leb-true}
 use Rattle.text.specs.Find.{before, throughLast}
 use Rattle.text.specs.Word.{word, same, endsIn}
 use Rattle.text.specs.Place.{bytesAt}
-use Rattle.text.proofs.Ascii.{ascii}
 use Rattle.abnf.specs.Rule.{nothing, range, _or_, _then_, times, upto}
 use Rattle.number.specs.Decimal.{allDigits, valueFrom, digitsOf, numberOf, digitsIn, decimal}
 use Rattle.number.specs.Hex.{hexDigit, hexCapital}
 use Rattle.eui64.specs.Eui64.{cutAtEach, highDigit, segmentOf, segmentsOf, eui64Of, segmentsText, eui64Text}
 use Rattle.ipaddr.specs.Address.{hexdig, decOctet, ipv4address, h16, h16colon, doubleColon, ls32, ipv6address, ipAddress}
-use Rattle.utf8.proofs.Text.{utf8-all-ascii}
 use Rattle.meaning.specs.Domain.{bare, bareRead, bareText}
-use Rattle.meaning.specs.ReferenceClock.{hostOf, ntpOf, versionOf, gmidOf, domainOf, serverOf, ptpOf, clockOf, referenceClockOf, asReferenceClockRead, readReferenceClock}
-use Rattle.meaning.specs.MediaClock.{rateOf, offsetOf, directOf, mediaClockOf, sourceOf, mediaClockSourceOf, asMediaClockSourceRead, readMediaClockSource}
+use Rattle.meaning.specs.ReferenceClock.{hostOf, ntpOf, versionOf, gmidOf, domainOf, serverOf, ptpOf, clockOf, asReferenceClockRead}
+use Rattle.meaning.specs.MediaClock.{rateOf, offsetOf, directOf, mediaClockOf, sourceOf, asMediaClockSourceRead}
 use Rattle.meaning.specs.Meaning.{refMeaning, mediaMeaning}
 use Rattle.meaning.specs.Text.{refMeaningText, referenceClockText, sourceMeaningText, mediaClockSourceText}
-use Rattle.meaning.proofs.Told.{guarded-well}
+use Rattle.meaning.proofs.Rows.{short, ref-plain, media-plain}
 use Rattle.report.specs.Lines.{withoutCr, endedFrom, openFrom, lastLine, linesOf}
 use Rattle.report.specs.Reply.{Reply, reply, referenceClockReply, mediaClockSourceReply, noReply, tsRefclkReply, mediaclkReply, replyTo}
 use Rattle.report.specs.Report.{printed, totals, totalsOfOne, _plus_, totalsOf, totalsText, report}
 use Rattle.report.specs.Worked.{worked-text, Worked}
 use Rattle.report.specs.declared.Kind.the-variants.{Accepted, Refused, Other}
 
-module _ (v : List ℕ) (short : leb (length v) 1024 ≡ true) (plain : ascii v ≡ true) where
-  ref-plain : tsRefclkReply v ≡ referenceClockReply v (asReferenceClockRead (clockOf bare v))
-  unfolding tsRefclkReply readReferenceClock referenceClockOf
-  ref-plain = rw (guarded-well v (clockOf bare v) (leb-true (length v) 1024 short) (utf8-all-ascii v plain))
+module _ (v : List ℕ) (h : short v ≡ true) where
+  ref-reply : tsRefclkReply v ≡ referenceClockReply v (asReferenceClockRead (clockOf bare v))
+  unfolding tsRefclkReply
+  ref-reply = rw (ref-plain v h)
 
-  media-plain : mediaclkReply v ≡ mediaClockSourceReply v (asMediaClockSourceRead (sourceOf v))
-  unfolding mediaclkReply readMediaClockSource mediaClockSourceOf
-  media-plain = rw (guarded-well v (sourceOf v) (leb-true (length v) 1024 short) (utf8-all-ascii v plain))
+  media-reply : mediaclkReply v ≡ mediaClockSourceReply v (asMediaClockSourceRead (sourceOf v))
+  unfolding mediaclkReply
+  media-reply = rw (media-plain v h)
 
 abbrev ptp : List ℕ
 ptp = word "ptp=IEEE1588-2008:00-1b-c5-ff-fe-00-0a-01:037"
@@ -46,14 +41,14 @@ ptpLine = word "a=ts-refclk:" ++ ptp
 
 ptp-reply : replyTo ptpLine ≡ reply Accepted (word "ok ptp=IEEE1588-2008:00-1B-C5-FF-FE-00-0A-01:37")
 unfolding replyTo clockOf ptpOf versionOf serverOf gmidOf domainOf bareRead referenceClockText refMeaningText refMeaning bareText before same bytesAt numberOf digitsOf allDigits valueFrom decimal digitsIn hexDigit hexCapital eui64Of segmentsOf segmentOf highDigit cutAtEach eui64Text segmentsText
-ptp-reply = ref-plain ptp refl refl
+ptp-reply = ref-reply ptp refl
 
 abbrev directLine : List ℕ
 directLine = word "a=mediaclk:direct=+0 "
 
 direct-reply : replyTo directLine ≡ reply Accepted (word "ok direct=0")
 unfolding replyTo sourceOf mediaClockOf directOf offsetOf rateOf mediaClockSourceText sourceMeaningText mediaMeaning before same numberOf digitsOf allDigits valueFrom decimal digitsIn
-direct-reply = media-plain (word "direct=+0 ") refl refl
+direct-reply = media-reply (word "direct=+0 ") refl
 
 abbrev otherLine : List ℕ
 otherLine = word "s=demo"
@@ -67,7 +62,7 @@ ntpLine = word "a=ts-refclk:ntp=:80"
 
 ntp-reply : replyTo ntpLine ≡ reply Refused (word "no 5 4 0")
 unfolding replyTo clockOf ntpOf hostOf noReply throughLast same decimal digitsIn ipAddress ipv6address ipv4address ls32 doubleColon h16colon h16 decOctet hexdig nothing range _or_ _then_ times upto
-ntp-reply = ref-plain (word "ntp=:80") refl refl
+ntp-reply = ref-reply (word "ntp=:80") refl
 
 four-lines : linesOf worked-text ≡ ptpLine ∷ directLine ∷ otherLine ∷ ntpLine ∷ []
 unfolding linesOf endedFrom openFrom lastLine withoutCr endsIn

@@ -3,10 +3,10 @@ use Prim.Native.Nat.{ℕ, _+_, _≤_}
 use mathlib.Core.Path.{_≡_}
 use mathlib.Core.List.{List, [], _++_}
 use lib.ListN.{length, take}
-use Rattle.report.specs.Lines.{withoutCr, lastLine}
+use Rattle.report.specs.Lines.{withoutCr, lastLine, linesOf}
 use Rattle.report.specs.Reply.{replyTo}
 use Rattle.report.specs.Report.{totalsOf, report}
-use Rattle.report.specs.Reader.{readerOf, fed, fedAll, session, joined}
+use Rattle.report.specs.Reader.{readerOf, fed, fedAll, closed, session, joined}
 
 -- each line is counted, and under one kind
 abbrev pub EachCounted : Type 0
@@ -34,3 +34,9 @@ ReaderOfAll = (fragments : List (List ℕ)) → length (joined fragments) ≤ 42
 
 abbrev pub AnyCutting : Type 0
 AnyCutting = (fragments : List (List ℕ)) → length (joined fragments) ≤ 4294967295 → session (readerOf []) fragments ≡ report (joined fragments)
+
+-- and the totals of the closed reader are those of the lines of the whole text: as many as it has lines, and the sum of the four kinds
+abbrev pub ClosedTotals : Type 0
+ClosedTotals =
+    (fragments : List (List ℕ)) → length (joined fragments) ≤ 4294967295
+    → closed (fedAll (readerOf []) fragments) .totals ≡ totalsOf (linesOf (joined fragments))

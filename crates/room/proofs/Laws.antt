@@ -1,25 +1,25 @@
 -- One law for each way out of this crate's functions, the invariants of their loops, and the laws by which puts compose. Assumes nothing.
-use Prim.Native.Nat.{ℕ, zero, suc, _+_, _-_, _*_, _/_, _%_, _^_, _≤_, _<_}
+use Prim.Native.Nat.{ℕ, zero, suc, _+_, _-_, _*_, _/_, _%_, _^_, _≤_, _<_, min}
 use mathlib.Core.Path.{_≡_, refl, sym, ap, _∙_}
 use mathlib.Core.List.{List, [], _∷_, _++_, append-assoc, append-nil}
 use mathlib.Core.Bool.{true}
 use native.Mathlib.Nat.{add-zero, add-suc, suc-add}
 use native.Mathlib.Numerals.{add-one}
 use native.Mathlib.Omega.{arith}
-use lib.Dec.{eqb}
+use lib.Dec.{eqb, leb}
 use lib.ListN.{length, getD, take, drop, set, length-append, length-set}
 use lib.Seq.{sets, length-sets, sets-eq, set-out, set-split, take-suc, take-all, take-at, length-take-le, drop-at, drop-length}
 use Rattle.text.specs.declared.Place.{Place}
 use Rattle.text.specs.Place.{Lent, PartAt, bytesAt}
-use Rattle.text.proofs.Bools.{eachBelow, each-below}
+use Rattle.text.proofs.Bools.{by-bool, eachBelow, each-below}
 use Rattle.text.proofs.Left.{rest-is}
 use Rattle.text.proofs.Cuts.{bytes-short}
 use Rattle.number.specs.Decimal.{decimal}
 use Rattle.number.proofs.Written.{decimal-one, decimal-more, decimal-length}
-use borrow.Author.Tests.{lt-ltb, le-ltb, eqb-true}
+use borrow.Author.Tests.{lt-ltb, le-ltb, leb-true, leb-false, eqb-true}
 use Rattle.number.specs.Hex.{hexCapital, hexSmall, hexCapitals, hexBytes}
 use Rattle.eui64.specs.Eui64.{segmentText, segmentsText, eui64Text}
-use Rattle.room.specs.Put.{Put}
+use Rattle.room.specs.Put.{lastPlace, behind, Put}
 
 -- a text and then another, stored
 pub sets-append : (l : List ℕ) (at : ℕ) (s t : List ℕ) → sets l at (s ++ t) ≡ sets (sets l at s) (at + length s) t
@@ -33,24 +33,38 @@ pub sets-behind : (l : List ℕ) (at : ℕ) (s : List ℕ) → length l ≤ at �
 sets-behind l at [] h = refl
 sets-behind l at (a ∷ s) h = ap (λ (m : List ℕ). sets m (suc at) s) (set-out l at a h) ∙ sets-behind l (suc at) s (omega arith)
 
+-- where counting stopped, and where it would have gone, the same is stored
+sets-stopped : (l : List ℕ) (next far : ℕ) (t : List ℕ) → next ≡ min far lastPlace → length l ≤ lastPlace → sets l next t ≡ sets l far t
+sets-stopped l next far t e h =
+    by-bool (leb far lastPlace)
+    (λ b. let k : next ≡ far = omega (arith, e, leb-true far lastPlace b) in ap (λ (n : ℕ). sets l n t) k)
+    (λ b.
+    let k : lastPlace < far = leb-false far lastPlace b in
+    sets-behind l next t (omega (arith, e)) ∙ sym (sets-behind l far t (omega arith)))
+
 -- How puts compose: nothing; a text, and then another behind it; and a wider bound.
-pub put-none : (l : List ℕ) (at : ℕ) → Put 0 l at [] at l
-put-none l at = record { place = omega arith; bound = omega arith; bytes = refl }
+pub put-none : (l : List ℕ) (at : ℕ) → at < 2 ^ 64 → length l < 2 ^ 64 → Put 0 l at [] at l
+put-none l at h k = record { place = omega arith; bound = omega arith; bytes = refl; reach = omega arith }
 
 pub put-then : {j k at next last : ℕ} {l m r s t : List ℕ} → Put j l at s next m → Put k m next t last r → Put (j + k) l at (s ++ t) last r
-put-then {at = at} {l = l} {m = m} {s = s} {t = t} p q =
+put-then {at = at} {next = next} {l = l} {m = m} {s = s} {t = t} p q =
     record {
       place = omega (arith, length-append s t, p .place, q .place);
       bound = omega (arith, length-append s t, p .bound, q .bound);
       bytes =
           q .bytes
-          ∙ ap (λ (k : ℕ). sets m k t) (p .place)
+          ∙ sets-stopped m next (at + length s) t (p .place) (q .reach)
           ∙ ap (λ (x : List ℕ). sets x (at + length s) t) (p .bytes)
           ∙ sym (sets-append l at s t);
+      reach = p .reach;
     }
 
 pub put-wider : {j k at next : ℕ} {l m s : List ℕ} → Put j l at s next m → j ≤ k → Put k l at s next m
-put-wider p h = record { place = p .place; bound = omega (arith, p .bound); bytes = p .bytes }
+put-wider p h = record { place = p .place; bound = omega (arith, p .bound); bytes = p .bytes; reach = p .reach }
+
+-- a text at the front is measured by the place behind it, where its bound is a place
+pub put-length : {k next : ℕ} {l m t : List ℕ} → Put k l 0 t next m → k ≤ lastPlace → next ≡ length t
+put-length p h = omega (arith, p .place, p .bound)
 
 -- a whole text at the front of a room that is long enough: the bytes behind it are as they were
 pub put-front : {k next : ℕ} {l m t : List ℕ} → Put k l 0 t next m → length t ≤ length l → m ≡ t ++ drop (length t) l
@@ -59,14 +73,10 @@ put-front {l = l} {t = t} p h =
     p .bytes ∙ sets-eq t l 0 (omega arith) ∙ ap (λ (k : ℕ). t ++ drop k l) e
 
 -- `put_byte`
-module _ (l : List ℕ) (at b : ℕ) where
-  pub byte-behind : length l ≤ at → Put 1 l at (b ∷ []) (at + 1) l
-  byte-behind h = record { place = refl; bound = omega arith; bytes = sym (set-out l at b h) }
+pub byte-behind : (l : List ℕ) (at b next : ℕ) → length l < 2 ^ 64 → length l ≤ at → next ≡ behind at 1 → Put 1 l at (b ∷ []) next l
+byte-behind l at b next k h e = record { place = e; bound = omega arith; bytes = sym (set-out l at b h); reach = omega arith }
 
-  pub byte-stored : Put 1 l at (b ∷ []) (at + 1) (set l at b)
-  byte-stored = record { place = refl; bound = omega arith; bytes = refl }
-
--- `put_bytes`: the first i bytes of the text s are stored
+-- `store`: the first i bytes of the text s are stored
 pub record Stored (l : List ℕ) (at : ℕ) (s : List ℕ) (i : ℕ) (m : List ℕ) : Type 0 where
   pub within : i ≤ length s
   pub size : length m ≡ length l
@@ -96,13 +106,10 @@ pub record EachPut (l : List ℕ) (at : ℕ) (s : List ℕ) (i to : ℕ) (m : Li
   pub size : length m ≡ length l
   pub so-far : Put i l at (take i s) to m
 
-pub each-start : (l : List ℕ) (at : ℕ) (s : List ℕ) → EachPut l at s 0 at l
-each-start l at s = record { within = omega arith; size = refl; so-far = put-none l at }
+pub each-start : (l : List ℕ) (at : ℕ) (s : List ℕ) → at < 2 ^ 64 → length l < 2 ^ 64 → EachPut l at s 0 at l
+each-start l at s h k = record { within = omega arith; size = refl; so-far = put-none l at h k }
 
 module _ {l : List ℕ} {at : ℕ} {s : List ℕ} {i to : ℕ} {m : List ℕ} (p : EachPut l at s i to m) where
-  pub each-asks : at + length s ≤ 65536 → i < length s → to + 1 ≤ 65536
-  each-asks h k = omega (arith, p .so-far .place, p .so-far .bound)
-
   pub each-more : (next : ℕ) (r : List ℕ) → i < length s → Put 1 m to (getD s i 0 ∷ []) next r → EachPut l at s (i + 1) next r
   each-more next r h q =
       record {
@@ -114,17 +121,10 @@ module _ {l : List ℕ} {at : ℕ} {s : List ℕ} {i to : ℕ} {m : List ℕ} (p
   pub each-end : length s ≤ i → Put (length s) l at s to m
   each-end h = let k : i ≤ length s = p .within in rw (take-all i s h) at (put-wider (p .so-far) k)
 
--- `put_bytes`
-pub bytes-stored : (l : List ℕ) (at : ℕ) (s m : List ℕ) → m ≡ sets l at s → Put (length s) l at s (at + length s) m
-bytes-stored l at s m e = record { place = refl; bound = omega arith; bytes = e }
-
 -- `put_part`
 module _ (v : Lent) (p : Place) (part : Lent) (is : PartAt v p part) (at : ℕ) where
   short : length (part .now) ≤ length (v .now)
   short = rw (is .bytes) (bytes-short p (v .now))
-
-  pub part-asks : at + length (v .now) ≤ 65536 → at + length (part .now) ≤ 65536
-  part-asks h = omega (arith, short)
 
   pub part-put : (l : List ℕ) (next : ℕ) (m : List ℕ) → Put (length (part .now)) l at (part .now) next m
       → Put (length (v .now)) l at (bytesAt p (v .now)) next m
@@ -183,7 +183,8 @@ module _ {n : ℕ} {digits : List ℕ} {first left : ℕ} (p : Spelled n digits 
               p .so-far
               ∙ ap (λ (s : List ℕ). s ++ drop first digits) longer
               ∙ append-assoc (decimal (left / 10)) (d ∷ []) (drop first digits)
-              ∙ ap (λ (s : List ℕ). decimal (left / 10) ++ s) (sym (drop-set digits first d (omega (arith, spelled-first)) (omega (arith, p .size, p .within))));
+              ∙ ap (λ (s : List ℕ). decimal (left / 10) ++ s)
+              (sym (drop-set digits first d (omega (arith, spelled-first)) (omega (arith, p .size, p .within))));
         }
 
   module _ (h : left < 10) where
@@ -193,17 +194,10 @@ module _ {n : ℕ} {digits : List ℕ} {first left : ℕ} (p : Spelled n digits 
     few : length (take (20 - first) (drop first digits)) + 1 ≡ length (decimal n)
     few = omega (arith, ap length spelled)
 
-    pub spelled-byte : (at : ℕ) → at + length (decimal n) ≤ 65536 → at + 1 ≤ 65536
-    spelled-byte at k = omega (arith, few)
-
-    module _ {at next : ℕ} {l m : List ℕ} (q : Put 1 l at ((48 + left) ∷ []) next m) where
-      pub spelled-asks : at + length (decimal n) ≤ 65536 → next + length (take (20 - first) (drop first digits)) ≤ 65536
-      spelled-asks k = omega (arith, q .place, few)
-
-      pub spelled-end : {last : ℕ} {r : List ℕ}
-          → Put (length (take (20 - first) (drop first digits))) m next (take (20 - first) (drop first digits)) last r
-          → Put (length (decimal n)) l at (decimal n) last r
-      spelled-end t = rw spelled (put-wider (put-then q t) (omega (arith, few)))
+    pub spelled-end : {at next last : ℕ} {l m r : List ℕ} → Put 1 l at ((48 + left) ∷ []) next m
+        → Put (length (take (20 - first) (drop first digits))) m next (take (20 - first) (drop first digits)) last r
+        → Put (length (decimal n)) l at (decimal n) last r
+    spelled-end q t = rw spelled (put-wider (put-then q t) (omega (arith, few)))
 
 -- `put_decimal` and `put_decimal_u64`
 module _ (n : ℕ) where
@@ -213,19 +207,12 @@ module _ (n : ℕ) where
   pub twenty-digits : n < 2 ^ 64 → length (decimal n) ≤ 20
   twenty-digits h = decimal-length 19 n (omega arith) (omega arith)
 
-  module _ (at : ℕ) where
-    pub ten-asks : n < 2 ^ 32 → at + 10 ≤ 65536 → at + length (decimal n) ≤ 65536
-    ten-asks h k = omega (arith, ten-digits h)
+  module _ {at next : ℕ} {l m : List ℕ} (p : Put (length (decimal n)) l at (decimal n) next m) where
+    pub ten-put : n < 2 ^ 32 → Put 10 l at (decimal n) next m
+    ten-put h = put-wider p (ten-digits h)
 
-    pub twenty-asks : n < 2 ^ 64 → at + 20 ≤ 65536 → at + length (decimal n) ≤ 65536
-    twenty-asks h k = omega (arith, twenty-digits h)
-
-    module _ {next : ℕ} {l m : List ℕ} (p : Put (length (decimal n)) l at (decimal n) next m) where
-      pub ten-put : n < 2 ^ 32 → Put 10 l at (decimal n) next m
-      ten-put h = put-wider p (ten-digits h)
-
-      pub twenty-put : n < 2 ^ 64 → Put 20 l at (decimal n) next m
-      twenty-put h = put-wider p (twenty-digits h)
+    pub twenty-put : n < 2 ^ 64 → Put 20 l at (decimal n) next m
+    twenty-put h = put-wider p (twenty-digits h)
 
 -- `hex_capital`: the table has each digit at its place
 abbrev capitals : List ℕ
@@ -311,9 +298,6 @@ module _ {id : ℕ} {text : List ℕ} {k left : ℕ} (p : InDashed id text k lef
   pub dashed-count : 23 ≡ length (take 23 text)
   dashed-count = sym (length-take-le 23 text (omega (arith, p .size)))
 
-  pub dashed-asks : (at : ℕ) → at + 23 ≤ 65536 → at + length (take 23 text) ≤ 65536
-  dashed-asks at h = omega (arith, length-take-le 23 text (omega (arith, p .size)))
-
   pub dashed-end : (at next : ℕ) (l m : List ℕ) → k ≤ 0 → Put (length (take 23 text)) l at (take 23 text) next m → Put 23 l at (eui64Text id) next m
   unfolding dashed
   dashed-end at next l m h q =
@@ -358,9 +342,6 @@ module _ {n : ℕ} {digits : List ℕ} {first left : ℕ} (p : InHex n digits fi
             ∙ ap (λ (s : List ℕ). hexCapitals (first - 1) (left / 16) ++ s) (sym (drop-set digits first x h (omega (arith, p .size, p .within))));
       }
 
-  pub in-hex-asks : (at : ℕ) → at + 16 ≤ 65536 → at + length digits ≤ 65536
-  in-hex-asks at h = omega (arith, p .size)
-
   pub in-hex-end : (at next : ℕ) (l m : List ℕ) → first ≤ 0 → Put (length digits) l at digits next m → Put 16 l at (hexCapitals 16 n) next m
   in-hex-end at next l m h q = rw (p .so-far, hex-none first left digits h) (put-wider q (omega (arith, p .size)))
 
@@ -390,14 +371,11 @@ unfolding hexBytes
 hex-append [] t = refl
 hex-append (b ∷ s) t = ap (λ (x : List ℕ). hexSmall (b / 16) ∷ hexSmall (b % 16) ∷ x) (hex-append s t)
 
-pub hex-start : (l : List ℕ) (at : ℕ) (s : List ℕ) → HexPut l at s 0 at l
+pub hex-start : (l : List ℕ) (at : ℕ) (s : List ℕ) → at < 2 ^ 64 → length l < 2 ^ 64 → HexPut l at s 0 at l
 unfolding hexBytes
-hex-start l at s = record { within = omega arith; size = refl; so-far = put-none l at }
+hex-start l at s h k = record { within = omega arith; size = refl; so-far = put-none l at h k }
 
 module _ {l : List ℕ} {at : ℕ} {s : List ℕ} {i to : ℕ} {m : List ℕ} (p : HexPut l at s i to m) where
-  pub hex-asks : at + 2 * length s ≤ 65536 → i < length s → to + 2 ≤ 65536
-  hex-asks h k = omega (arith, p .so-far .place, p .so-far .bound)
-
   pub hex-more : (next : ℕ) (r : List ℕ) → i < length s → Put 2 m to (hexBytes (getD s i 0 ∷ [])) next r → HexPut l at s (i + 1) next r
   hex-more next r h q =
       record {
@@ -411,26 +389,18 @@ module _ {l : List ℕ} {at : ℕ} {s : List ℕ} {i to : ℕ} {m : List ℕ} (p
 
 pub ruleset laws = (
   byte-behind,
-  byte-stored,
   stored-start,
   stored-more,
   stored-all,
   stored-room,
   each-start,
-  each-asks,
   each-more,
   each-end,
-  bytes-stored,
-  part-asks,
   part-put,
   spelled-start,
   spelled-first,
   spelled-next,
-  spelled-byte,
-  spelled-asks,
   spelled-end,
-  ten-asks,
-  twenty-asks,
   ten-put,
   twenty-put,
   capital-table,
@@ -438,17 +408,14 @@ pub ruleset laws = (
   dashed-place,
   dashed-next,
   dashed-count,
-  dashed-asks,
   dashed-end,
   in-hex-start,
   in-hex-next,
-  in-hex-asks,
   in-hex-end,
   small-digit,
   small-letter,
   hex-byte-put,
   hex-start,
-  hex-asks,
   hex-more,
   hex-end,
 )

@@ -1,6 +1,6 @@
 // Texts put into lent room, each from a place on, with the place behind it as the answer. A byte whose place lies behind the room's end is
-// counted and not stored, so a text is measured by putting it into no room. Each function asks that its places stay below 65,536, so that
-// no place overflows.
+// counted and not stored, so a text is measured by putting it into no room. Counting stops at the last place that there is, which lies behind
+// the end of every room: no place overflows, and no byte is stored at a wrong one.
 ghost use mathlib.Core.Path.{_≡_};
 ghost use mathlib.Core.List.{_∷_, []};
 ghost use Prim.Native.Nat.{_+_, _*_, _≤_, _<_};
@@ -10,23 +10,32 @@ ghost use Rattle.text.specs.Place.{bytesAt};
 ghost use Rattle.number.specs.Decimal.{decimal};
 ghost use Rattle.number.specs.Hex.{hexCapital, hexSmall, hexCapitals, hexBytes};
 ghost use Rattle.eui64.specs.Eui64.{eui64Text};
-ghost use Rattle.room.specs.Put.{Put};
+ghost use Rattle.room.specs.Put.{behind, Put};
 use text::Place;
 
+// The place behind a byte that is only counted. Behind the last place there is none.
+fn next_place(at: usize) -> usize
+    ensures { λ r. ⌜ r ≡ behind at 1 ⌝ }
+{
+    if usize::MAX <= at {
+        return at;
+    }
+    at + 1
+}
+
 pub fn put_byte(room: &mut [u8], at: usize, b: u8) -> usize
-    requires { ⌜ at + 1 ≤ 65536 ⌝ }
     ensures { λ r. ⌜ Put 1 (now (room .entry)) at (b ∷ []) r (now (room .exit)) ⌝ }
 {
-    if room.len() <= at {
+    if at < room.len() {
+        room[at] = b;
         return at + 1;
     }
-    room[at] = b;
-    at + 1
+    next_place(at)
 }
 
 // Stores a text that fits.
 fn store(room: &mut [u8], at: usize, src: &[u8])
-    requires { ⌜ (at + length (now src) ≤ 65536) × (at + length (now src) ≤ length (now room)) ⌝ }
+    requires { ⌜ at + length (now src) ≤ length (now room) ⌝ }
     ensures { λ _. ⌜ now (room .exit) ≡ sets (now (room .entry)) at (now (src .entry)) ⌝ }
 {
     let mut i = 0;
@@ -39,7 +48,6 @@ fn store(room: &mut [u8], at: usize, src: &[u8])
 
 // Puts a text byte by byte.
 fn put_each(room: &mut [u8], at: usize, src: &[u8]) -> usize
-    requires { ⌜ at + length (now src) ≤ 65536 ⌝ }
     ensures { λ r. ⌜ Put (length (now (src .entry))) (now (room .entry)) at (now (src .entry)) r (now (room .exit)) ⌝ }
 {
     let mut to = at;
@@ -52,21 +60,21 @@ fn put_each(room: &mut [u8], at: usize, src: &[u8]) -> usize
 }
 
 pub fn put_bytes(room: &mut [u8], at: usize, src: &[u8]) -> usize
-    requires { ⌜ at + length (now src) ≤ 65536 ⌝ }
     ensures { λ r. ⌜ Put (length (now (src .entry))) (now (room .entry)) at (now (src .entry)) r (now (room .exit)) ⌝ }
 {
-    let end = at + src.len();
-    // a text that fits is copied with one test
-    if end <= room.len() {
-        store(room, at, src);
-        return end;
+    let end = std::num::wrapping_add_usize(at, src.len());
+    // a text that fits is copied; an end before the start is one that wrapped
+    if at <= end {
+        if end <= room.len() {
+            store(room, at, src);
+            return end;
+        }
     }
     put_each(room, at, src)
 }
 
 // The part of a value at a place.
 pub fn put_part(room: &mut [u8], at: usize, value: &[u8], p: Place) -> usize
-    requires { ⌜ at + length (now value) ≤ 65536 ⌝ }
     ensures { λ r. ⌜ Put (length (now (value .entry))) (now (room .entry)) at (bytesAt p (now (value .entry))) r (now (room .exit)) ⌝ }
 {
     put_bytes(room, at, text::part(value, p))
@@ -74,7 +82,6 @@ pub fn put_part(room: &mut [u8], at: usize, value: &[u8], p: Place) -> usize
 
 // The digits of a number: the last are made first, and stand at the end of `digits` until all are known.
 fn put_digits(room: &mut [u8], at: usize, n: u64) -> usize
-    requires { ⌜ at + length (decimal n) ≤ 65536 ⌝ }
     ensures { λ r. ⌜ Put (length (decimal n)) (now (room .entry)) at (decimal n) r (now (room .exit)) ⌝ }
 {
     let mut digits = [0u8; 20];
@@ -90,14 +97,12 @@ fn put_digits(room: &mut [u8], at: usize, n: u64) -> usize
 }
 
 pub fn put_decimal(room: &mut [u8], at: usize, n: u32) -> usize
-    requires { ⌜ at + 10 ≤ 65536 ⌝ }
     ensures { λ r. ⌜ Put 10 (now (room .entry)) at (decimal n) r (now (room .exit)) ⌝ }
 {
     put_digits(room, at, n as u64)
 }
 
 pub fn put_decimal_u64(room: &mut [u8], at: usize, n: u64) -> usize
-    requires { ⌜ at + 20 ≤ 65536 ⌝ }
     ensures { λ r. ⌜ Put 20 (now (room .entry)) at (decimal n) r (now (room .exit)) ⌝ }
 {
     put_digits(room, at, n)
@@ -115,7 +120,6 @@ fn hex_capital(d: u8) -> u8
 
 // The segments of an EUI-64, the last made first, each with a `-` behind it. The `-` behind the last one is not put.
 pub fn put_eui64(room: &mut [u8], at: usize, id: u64) -> usize
-    requires { ⌜ at + 23 ≤ 65536 ⌝ }
     ensures { λ r. ⌜ Put 23 (now (room .entry)) at (eui64Text id) r (now (room .exit)) ⌝ }
 {
     let mut text = [0u8; 24];
@@ -135,7 +139,6 @@ pub fn put_eui64(room: &mut [u8], at: usize, id: u64) -> usize
 
 // All sixteen digits of base 16 of a number, in capitals.
 pub fn put_hex_u64(room: &mut [u8], at: usize, n: u64) -> usize
-    requires { ⌜ at + 16 ≤ 65536 ⌝ }
     ensures { λ r. ⌜ Put 16 (now (room .entry)) at (hexCapitals 16 n) r (now (room .exit)) ⌝ }
 {
     let mut digits = [0u8; 16];
@@ -161,7 +164,6 @@ fn hex_small(d: u8) -> u8
 }
 
 fn put_hex_byte(room: &mut [u8], at: usize, b: u8) -> usize
-    requires { ⌜ at + 2 ≤ 65536 ⌝ }
     ensures { λ r. ⌜ Put 2 (now (room .entry)) at (hexBytes (b ∷ [])) r (now (room .exit)) ⌝ }
 {
     let to = put_byte(room, at, hex_small(b / 16));
@@ -170,7 +172,6 @@ fn put_hex_byte(room: &mut [u8], at: usize, b: u8) -> usize
 
 // A text in base 16, two small digits a byte.
 pub fn put_hex_bytes(room: &mut [u8], at: usize, src: &[u8]) -> usize
-    requires { ⌜ at + 2 * length (now src) ≤ 65536 ⌝ }
     ensures { λ r. ⌜ Put (2 * length (now (src .entry))) (now (room .entry)) at (hexBytes (now (src .entry))) r (now (room .exit)) ⌝ }
 {
     let mut to = at;

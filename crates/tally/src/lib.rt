@@ -1,7 +1,7 @@
 // The totals of a report: a line counted, and the line that says them all.
 ghost use mathlib.Core.Path.{_≡_};
 ghost use mathlib.Core.List.{_++_};
-ghost use Prim.Native.Nat.{_≤_, _+_};
+ghost use Prim.Native.Nat.{_≤_};
 ghost use lib.ListN.{length};
 ghost use Rattle.text.specs.Word.{word};
 ghost use Rattle.number.specs.Decimal.{decimal};
@@ -38,7 +38,7 @@ pub fn count(before: Totals, kind: Kind) -> Totals
 
 // A word of at most 7 bytes, and a number behind it.
 fn put_item(room: &mut [u8], at: usize, word: &[u8], n: u32) -> usize
-    requires { ⌜ (length (now word) ≤ 7) × (at + 17 ≤ 65536) ⌝ }
+    requires { ⌜ length (now word) ≤ 7 ⌝ }
     ensures { λ r. ⌜ Put 17 (now (room .entry)) at (now (word .entry) ++ decimal n) r (now (room .exit)) ⌝ }
 {
     let number = room::put_bytes(room, at, word);
@@ -47,7 +47,8 @@ fn put_item(room: &mut [u8], at: usize, word: &[u8], n: u32) -> usize
 
 // The front of the line of the totals, as far as the refused lines.
 fn put_front(all: Totals, room: &mut [u8]) -> usize
-    ensures { λ r. ⌜ Put 51 (now (room .entry)) 0 (word "lines " ++ decimal (all .lines) ++ word " ok " ++ decimal (all .ok) ++ word " no " ++ decimal (all .no)) r (now (room .exit)) ⌝ }
+    ensures { λ r. ⌜ Put 51 (now (room .entry)) 0
+        (word "lines " ++ decimal (all .lines) ++ word " ok " ++ decimal (all .ok) ++ word " no " ++ decimal (all .no)) r (now (room .exit)) ⌝ }
 {
     let ok = put_item(room, 0, b"lines ", all.lines);
     let no = put_item(room, ok, b" ok ", all.ok);

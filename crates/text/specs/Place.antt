@@ -23,3 +23,13 @@ pub record PartAt (s : Lent) (p : Place) (r : Lent) : Type 0 where
   pub block : r .ptr .0 ≡ s .ptr .0
   pub start : r .ptr .1 ≡ s .ptr .1 + min (p .start) (length (s .now))
   pub bytes : r .now ≡ bytesAt p (s .now)
+
+-- one part: the same block, the same start in it, and the same bytes. What a program cannot see is left open: the ghost name, under which the proofs
+-- follow the bytes behind a slice
+pub record OnePart (q r : Lent) : Type 0 where
+  pub ptr : q .ptr ≡ r .ptr
+  pub bytes : q .now ≡ r .now
+
+-- so much is settled by a place: two answers at it are one part. `proofs/Parts.antt` proves it
+abbrev pub PartSettled : Type 0
+PartSettled = (s : Lent) (p : Place) (q r : Lent) → PartAt s p q → PartAt s p r → OnePart q r

@@ -9,9 +9,9 @@ use Rattle.clock.specs.declared.MediaClockSource.{MediaClockSource}
 use Rattle.clock.specs.declared.Wrote.{Wrote}
 use Rattle.clock.specs.declared.Wrote.the-variants.{Length}
 use Rattle.meaning.specs.Written.{wroteOf, roomAfter, front, writtenReferenceClock, writtenMediaClockSource}
-use Rattle.meaning.proofs.Demand3.{ref-written, ref-demand, media-written, media-demand}
+use Rattle.meaning.proofs.Demand3.{ref-written, ref-read-back, ref-demand, media-written, media-read-back, media-demand}
 use Rattle.writing.specs.Writes.{Writes}
-use Rattle.writing.specs.Demand3.{RefCall, MediaCall, RefSucceeds, MediaSucceeds, RefLeft, MediaLeft}
+use Rattle.writing.specs.Demand3.{RefCall, MediaCall, RefSucceeds, MediaSucceeds, RefLeftReads, MediaLeftReads, RefLeft, MediaLeft}
 
 left : {v : List ℕ} {inside : Bool} {t room : List ℕ} {answer : Wrote} {after : List ℕ} → Writes v inside t room answer after
     → front answer after ≡ front (wroteOf v inside t (length room)) (roomAfter (wroteOf v inside t (length room)) t room)
@@ -36,6 +36,12 @@ pub media-succeeds : MediaSucceeds
 media-succeeds v m answer after call =
     call .writes .says ∙ media-written v m (call .room) (call .given) .succeeds
     ∙ ap (λ (t : List ℕ). Length (length t)) (sym (media-stands call))
+
+pub ref-left-reads : RefLeftReads
+ref-left-reads v c answer after call = rw (ref-stands call) (ref-read-back v c (call .room) (call .given))
+
+pub media-left-reads : MediaLeftReads
+media-left-reads v m answer after call = rw (media-stands call) (media-read-back v m (call .room) (call .given))
 
 pub ref-left : RefLeft
 ref-left v w c d answer other after later call again =

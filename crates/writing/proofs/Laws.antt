@@ -6,22 +6,15 @@ use mathlib.Core.Bool.{Bool, true, false, not}
 use native.Mathlib.Omega.{arith}
 use lib.ListN.{length}
 use borrow.Author.Tests.{lt-ltb, le-ltb, not-true, not-false}
-use Rattle.text.proofs.Bools.{by-bool}
-use lib.Dec.{ltb}
 use Rattle.clock.specs.declared.Refusal.{Refusal}
 use Rattle.clock.specs.declared.Wrote.{Wrote}
 use Rattle.clock.specs.declared.Wrote.the-variants as wrote
 use Rattle.clock.specs.declared.WriteRefusal.the-variants as refused
 use Rattle.clock.specs.Refusal.{refusal}
-use Rattle.meaning.specs.Written.{wroteOf, wroteNumber, owedNumber, roomAfter}
+use Rattle.meaning.specs.Written.{wroteOf, roomAfter}
 use Rattle.room.specs.Put.{Put}
-use Rattle.room.proofs.Laws.{put-front}
+use Rattle.room.proofs.Laws.{put-length, put-front}
 use Rattle.writing.specs.Writes.{Writes}
-
--- each refusal carries the number that is owed
-numbered : (v : List ℕ) (inside : Bool) (t : List ℕ) (n : ℕ) → wroteNumber (wroteOf v inside t n) ≡ owedNumber v inside t n
-unfolding wroteOf owedNumber
-numbered v inside t n = by-bool (ltb 1024 (length v)) (λ e. simp e) (λ e. by-bool inside (λ f. by-bool (ltb n (length t)) (λ g. simp (e, f, g)) (λ g. simp (e, f, g))) (λ f. simp (e, f)))
 
 module _ (v : List ℕ) (inside : Bool) (t room : List ℕ) where
   -- what is left to show of an answer
@@ -29,7 +22,6 @@ module _ (v : List ℕ) (inside : Bool) (t room : List ℕ) where
   answered e f =
       record {
         says = sym e;
-        number = ap wroteNumber (sym e) ∙ numbered v inside t (length room);
         leaves = f ∙ ap (λ (x : Wrote). roomAfter x t room) (sym e);
       }
 
@@ -62,7 +54,7 @@ module _ (v : List ℕ) (inside : Bool) (t room : List ℕ) where
           (put-front p (omega (arith, e)) ∙ rw e)
 
       pub write-bounded : (k n : ℕ) (after : List ℕ) → k ≤ length room → Put k room 0 t n after → Writes v inside t room (wrote.Length n) after
-      write-bounded k n after h p = write-measured k n n after (omega (arith, p .place)) (omega (arith, p .place, p .bound)) p
+      write-bounded k n after h p = write-measured k n n after (put-length p (omega (arith, p .reach))) (omega (arith, p .place, p .bound)) p
 
 pub ruleset laws = (
   write-long,

@@ -1,5 +1,6 @@
 -- Demand 3, of what the two writers leave in the room: of an accepted value with 1,026 bytes of room writing succeeds, and of any two the texts
--- that stand in their rooms are equal exactly when the records are. `proofs/Demand3.antt` proves each of these statements.
+-- that stand in their rooms are equal exactly when the records are; reading such a text gives an equal record but for the one class.
+-- `proofs/Demand3.antt` proves each of these statements.
 use Prim.Native.Nat.{ℕ}
 use mathlib.Core.Path.{_≡_}
 use mathlib.Core.Logic.{_↔_}
@@ -12,7 +13,7 @@ use Rattle.clock.specs.declared.Wrote.the-variants.{Length}
 use Rattle.meaning.specs.Text.{referenceClockText, mediaClockSourceText}
 use Rattle.meaning.specs.Inside.{referenceClockInside, mediaClockSourceInside}
 use Rattle.meaning.specs.Written.{front}
-use Rattle.meaning.specs.Demand3.{RefGiven, SameReferenceClock, MediaGiven, SameMediaClockSource}
+use Rattle.meaning.specs.Demand3.{RefGiven, SameReferenceClock, RefReadBack, MediaGiven, SameMediaClockSource, MediaReadBack}
 use Rattle.writing.specs.Writes.{Writes}
 
 -- a call of the writer that was given v, read as the record, and room enough: its answer and the room after it
@@ -35,6 +36,14 @@ abbrev pub MediaSucceeds : Type 0
 MediaSucceeds =
     (v : List ℕ) (m : MediaClockSource) (answer : Wrote) (after : List ℕ) → MediaCall v m answer after
     → answer ≡ Length (length (front answer after))
+
+abbrev pub RefLeftReads : Type 0
+RefLeftReads =
+    (v : List ℕ) (c : ReferenceClock) (answer : Wrote) (after : List ℕ) → RefCall v c answer after → RefReadBack v c (front answer after)
+
+abbrev pub MediaLeftReads : Type 0
+MediaLeftReads =
+    (v : List ℕ) (m : MediaClockSource) (answer : Wrote) (after : List ℕ) → MediaCall v m answer after → MediaReadBack v m (front answer after)
 
 abbrev pub RefLeft : Type 0
 RefLeft =

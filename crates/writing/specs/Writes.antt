@@ -5,11 +5,9 @@ use mathlib.Core.List.{List}
 use mathlib.Core.Bool.{Bool}
 use lib.ListN.{length}
 use Rattle.clock.specs.declared.Wrote.{Wrote}
-use Rattle.meaning.specs.Written.{wroteOf, wroteNumber, owedNumber, roomAfter}
+use Rattle.meaning.specs.Written.{wroteOf, roomAfter}
 
--- Writing the text t of a record whose places lie inside the value v or not: the answer, the number that it carries, and the room after it. On a refusal every byte of the
--- room is as it was; else the text stands at its front and the bytes behind it are as they were.
+-- Writing the text t of a record whose places lie inside the value v or not: the answer, and the room after it.
 pub record Writes (v : List ℕ) (inside : Bool) (t room : List ℕ) (answer : Wrote) (after : List ℕ) : Type 0 where
   pub says : answer ≡ wroteOf v inside t (length room)
-  pub number : wroteNumber answer ≡ owedNumber v inside t (length room)
   pub leaves : after ≡ roomAfter (wroteOf v inside t (length room)) t room

@@ -4,24 +4,25 @@ use borrow.Author.Needs.{needs}
 use Rattle.room.proofs.put_byte.Statement.{statement}
 use Rattle.room.proofs.put_byte.Tie as tie
 
-add-result : tie.Need-add-result
-add-result c = search needs
-
-returns : tie.Need-returns
-returns c = search (needs, laws)
-
 slice-write-room : tie.Need-slice-write-room
 slice-write-room c = search needs
 
-add-result-2 : tie.Need-add-result-2
-add-result-2 c = search needs
+add-result : tie.Need-add-result
+add-result c = search needs
 
 same-length : tie.Need-same-length
 same-length c = search needs
 
+returns : tie.Need-returns
+returns c = search needs
+
+next-place-requires : tie.Need-next-place-requires
+next-place-requires c κs = search needs
+
 returns-2 : tie.Need-returns-2
-returns-2 c = search needs
+returns-2 c = search (needs, laws)
 
 pub put-byte-spec : {M : Type 1} → statement M
 put-byte-spec =
-    tie.close (tie.spec add-result returns slice-write-room add-result-2 same-length returns-2)
+    tie.close
+    (tie.spec slice-write-room add-result same-length returns next-place-requires returns-2)

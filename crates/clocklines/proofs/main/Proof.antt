@@ -1,8 +1,8 @@
--- `listing::report_input` meets its contract: each turn reads a byte at least, and no more than is left to read.
-use Rattle.listing.proofs.Laws.{laws}
+-- `clocklines::main` is safe and ends: each turn reads a byte at least, and no more than is left to read.
+use Rattle.clocklines.proofs.Laws.{laws}
 use borrow.Author.Needs.{needs}
-use Rattle.listing.proofs.report_input.Statement.{statement}
-use Rattle.listing.proofs.report_input.Tie as tie
+use Rattle.clocklines.proofs.main.Statement.{statement}
+use Rattle.clocklines.proofs.main.Tie as tie
 
 abbrev Inv-loop : tie.InvT-loop
 Inv-loop memory₀ space₀ room₀ state₀ left₀ memory space room state left = Unit {0}
@@ -73,8 +73,8 @@ returns-2 c = search (needs, laws)
 returns-3 : tie.Need-returns-3 Inv-loop μ-loop
 returns-3 c = search (needs, laws)
 
-pub report-input-spec : {M : Type 1} → statement M
-report-input-spec =
+pub main-spec : {M : Type 1} → statement M
+main-spec =
     tie.close
     (tie.spec
     Inv-loop

@@ -1,0 +1,2 @@
+-- Rows of where reading departs from the RFC.
+pub mod Departures

@@ -1,0 +1,13 @@
+pub mod Laws
+pub mod Texts
+pub mod Meanings
+pub mod Parts
+pub mod Extension
+pub mod Ntp
+pub mod Ptp
+pub mod Reference
+pub mod Domain
+pub mod Direct
+pub mod Media
+pub mod Narrower
+pub mod Whole
