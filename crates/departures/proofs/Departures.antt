@@ -30,6 +30,7 @@ use Rattle.meaning.specs.MediaClock.{mediaClockSourceOf, asMediaClockSourceRead
 use Rattle.meaning.specs.Meaning.{refMeaning, mediaMeaning}
 use Rattle.meaning.specs.Text.{refMeaningText, referenceClockText}
 use Rattle.meaning.proofs.Told.{guarded-well}
+use Rattle.meaning.proofs.Demand1.{ref-answered, media-answered}
 use Rattle.meaning.proofs.Rows.{short, ref-plain, each-where}
 use Rattle.rfc7273.specs.Manner.{published, onlyIn, quoted}
 use Rattle.rfc7273.specs.Elsewhere.{alpha, tokenChar, base64Char, base64, alphanum, domainlabel, toplabel, hostname, host, port, hostport}
@@ -38,7 +39,6 @@ use Rattle.rfc7273.specs.Grammar.{ptpDomainDgts, ptpDomain, clksrcOf, mediaclkO
 use Rattle.departures.specs.Departures.{takers, refKinds, refBoth, refRows, refIllFormed, textOf, writtenBoth, refWritten, sourceKinds}
 use Rattle.departures.specs.Departures.{sourceBoth, sourceRows, sourceIllFormed}
 use Rattle.rfc7273.proofs.Laws.{not-so}
-use Rattle.rfc7273.proofs.Whole.{ref-owed, media-owed}
 use Rattle.departures.proofs.Quick.{each, first, front, segments, quickRef, ref-quick, quickSource, source-quick}
 
 -- alternatives that are equal take the same, and pairs of equals are equal
@@ -98,12 +98,20 @@ module _ (s : List ℕ) (h : ill s ≡ true) where
   ill-octets : utf8Octets s ≡ false
   ill-octets = not-so (utf8Octets s) (and-right (leb (length s) 1024) _ h)
 
+  ref-ill : refSays s ≡ refusedWith 2
+  unfolding refSays
+  ref-ill = let r = ref-answered s .ill ill-short ill-octets in rw (r .is, r .number)
+
+  media-ill : mediaSays s ≡ refusedWith 2
+  unfolding mediaSays
+  media-ill = let r = media-answered s .ill ill-short ill-octets in rw (r .is, r .number)
+
 abbrev refIllQuick : List ℕ → List RefKind × Says RefKind
 refIllQuick s = (takers quickRef s refKinds, refusedWith 2)
 
 ref-ill-agree : (s : List ℕ) → ill s ≡ true → refBoth s ≡ refIllQuick s
 ref-ill-agree s h =
-    pair (takers-same (clksrcOf published) quickRef ref-quick s refKinds) (ref-owed .ill-formed s (ill-short s h) (ill-octets s h))
+    pair (takers-same (clksrcOf published) quickRef ref-quick s refKinds) (ref-ill s h)
 
 pub ref-ill-formed : Each refBoth refIllFormed
 unfolding utf8Char nothing range _or_ _then_ _thenMany_ times onlyIn quoted same tokenChar each first front segments
@@ -114,7 +122,7 @@ sourceIllQuick s = (takers quickSource s sourceKinds, refusedWith 2)
 
 source-ill-agree : (s : List ℕ) → ill s ≡ true → sourceBoth s ≡ sourceIllQuick s
 source-ill-agree s h =
-    pair (takers-same (mediaclkOf published) quickSource source-quick s sourceKinds) (media-owed .ill-formed s (ill-short s h) (ill-octets s h))
+    pair (takers-same (mediaclkOf published) quickSource source-quick s sourceKinds) (media-ill s h)
 
 pub source-ill-formed : Each sourceBoth sourceIllFormed
 unfolding utf8Char nothing range _or_ _then_ _thenMany_ times onlyIn quoted same tokenChar each first front segments

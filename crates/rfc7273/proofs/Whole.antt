@@ -1,20 +1,12 @@
--- The whole grammar and its alternatives have the same texts; texts that are too long or ill-formed are refused; and all that is owed. Assumes nothing.
-use Prim.Native.Nat.{ℕ, _-_, _≤_, _<_}
+-- The whole grammar and its alternatives have the same texts; and all that is owed. Assumes nothing.
+use Prim.Native.Nat.{ℕ}
 use mathlib.Core.Path.{_≡_, refl, sym, ap, _∙_}
-use mathlib.Core.Bool.{true, false}
+use mathlib.Core.Bool.{true}
 use mathlib.Core.List.{List, [], _++_}
-use lib.ListN.{length}
-use borrow.Author.Tests.{le-ltb}
 use Rattle.text.proofs.Bools.{both, and-left, and-right}
-use Rattle.abnf.specs.Rule.{Rule, nothing, _or_, _then_, maybe, longest}
+use Rattle.abnf.specs.Rule.{Rule, nothing, _or_, _then_, maybe}
 use Rattle.abnf.proofs.Rules.{then-join}
-use Rattle.utf8.specs.Utf8.{utf8Of, utf8Octets}
-use Rattle.meaning.specs.Answer.{Answer, refuse, guarded}
-use Rattle.meaning.specs.ReferenceClock.{readReferenceClock, referenceClockOf, clockOf}
-use Rattle.meaning.specs.MediaClock.{readMediaClockSource, mediaClockSourceOf, sourceOf}
 use Rattle.meaning.specs.Meaning.{RefMeaning, refMeaning, SourceMeaning, mediaMeaning}
-use Rattle.meaning.specs.Domain.{bare}
-use Rattle.meaning.proofs.Told.{guarded-long}
 use Rattle.rfc7273.specs.Manner.{Manner, published, narrowed, onlyIn, quoted}
 use Rattle.rfc7273.specs.Elsewhere.{sp}
 use Rattle.rfc7273.specs.Kinds.{acceptedAs, RefKind, refKind, refSays, SourceKind, MediaKind, _with-id_, sourceKind, mediaSays}
@@ -129,15 +121,6 @@ module _ (m : Manner) where
   source-covers (k with-id kind.srcId) =
       left _ _ (within-then (within-then within-same (within-then (right _ _ within-same) within-same)) (media-covers m k))
 
--- refused before any rule is asked
-module _ {A : Type 0} (s : List ℕ) (a : Answer A) where
-  too-long : 1024 < length s → guarded s a ≡ refuse 1 1024 (length s - 1024)
-  too-long = guarded-long s a
-
-  not-well : length s ≤ 1024 → utf8Octets s ≡ false → guarded s a ≡ refuse 2 (longest utf8Octets s) 1
-  unfolding guarded utf8Of
-  not-well h k = simp (le-ltb 1024 (length s) h, k)
-
 -- a text is accepted as the kind of its meaning
 ref-accepted : (s : List ℕ) (m : RefMeaning) → RefReads s m → refSays s ≡ acceptedAs (refKind m)
 unfolding refSays
@@ -159,7 +142,6 @@ media-once s m n f g =
     sym (f .means) ∙ ap (mediaMeaning s) e ∙ g .means
 
 pub ref-owed : RefOwed
-unfolding refSays readReferenceClock referenceClockOf
 ref-owed =
     record {
       meant = ref-meant;
@@ -170,12 +152,9 @@ ref-owed =
       narrower = ref-narrower;
       covered = ref-covered;
       covers = λ m k. ref-covers m k .within;
-      long = λ s h. rw (too-long s (clockOf bare s) h);
-      ill-formed = λ s h k. rw (not-well s (clockOf bare s) h k);
     }
 
 pub media-owed : MediaOwed
-unfolding mediaSays readMediaClockSource mediaClockSourceOf
 media-owed =
     record {
       meant = source-meant;
@@ -186,6 +165,4 @@ media-owed =
       narrower = source-narrower;
       covered = source-covered;
       covers = λ m k. source-covers m k .within;
-      long = λ s h. rw (too-long s (sourceOf s) h);
-      ill-formed = λ s h k. rw (not-well s (sourceOf s) h k);
     }

@@ -1,13 +1,12 @@
 -- What is owed to the RFC's texts. `proofs/Whole.antt` and `proofs/Domain.antt` prove the statements.
-use Prim.Native.Nat.{ℕ, _≤_, _<_}
+use Prim.Native.Nat.{ℕ, _≤_}
 use mathlib.Core.Path.{_≡_}
-use mathlib.Core.Bool.{true, false}
+use mathlib.Core.Bool.{true}
 use mathlib.Core.List.{List, _++_}
 use mathlib.Core.Option.{some}
 use lib.ListN.{length}
 use Rattle.text.specs.Word.{word}
 use Rattle.abnf.specs.Rule.{Rule}
-use Rattle.utf8.specs.Utf8.{utf8Octets}
 use Rattle.clock.specs.declared.ReferenceClock.{ReferenceClock}
 use Rattle.clock.specs.declared.ReferenceClockRead.the-variants as ref
 use Rattle.clock.specs.declared.MediaClockSource.{MediaClockSource}
@@ -57,9 +56,6 @@ module _ {K M : Type 0} (whole : Manner → Rule) (alternative : Manner → K �
     -- a text of the whole grammar is one of an alternative, and the other way round
     pub covered : (m : Manner) (s : List ℕ) → whole m s ≡ true → (k : K) × (alternative m k s ≡ true)
     pub covers : (m : Manner) (k : K) → Narrower (alternative m k) (whole m)
-    -- texts that are too long, and then those that are not well-formed, are refused
-    pub long : (s : List ℕ) → 1024 < length s → says s ≡ refusedWith 1
-    pub ill-formed : (s : List ℕ) → length s ≤ 1024 → utf8Octets s ≡ false → says s ≡ refusedWith 2
 
 abbrev pub RefOwed : Type 0
 RefOwed = Owed clksrc clksrcOf RefText refKind RefReads refSays
