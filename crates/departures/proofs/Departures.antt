@@ -58,7 +58,10 @@ unfolding refSays
 ref-agree s h = pair (takers-same (clksrcOf published) quickRef ref-quick s refKinds) (ap (refSaid s) (ref-plain s h))
 
 pub ref-rows : Each refBoth refRows
-unfolding refMeaning clockOf ntpOf hostOf bracketOf addressOf portOf ptpOf versionOf serverOf gmidOf domainOf bareRead extensionOf before beforePair throughLast same endsIn numberOf digitsOf allDigits valueFrom hexDigit eui64Of segmentsOf segmentOf highDigit cutAtEach ipAddress ipv6address ipv4address ls32 doubleColon h16colon h16 decOctet hexdig nothing range _or_ _then_ _thenMany_ times upto onlyIn quoted alpha tokenChar alphanum domainlabel toplabel hostname host port hostport ptpDomainDgts ptpDomain each first front segments
+unfolding refMeaning clockOf ntpOf hostOf bracketOf addressOf portOf ptpOf versionOf serverOf gmidOf domainOf bareRead extensionOf before beforePair
+    throughLast same endsIn numberOf digitsOf allDigits valueFrom hexDigit eui64Of segmentsOf segmentOf highDigit cutAtEach ipAddress ipv6address
+    ipv4address ls32 doubleColon h16colon h16 decOctet hexdig nothing range _or_ _then_ _thenMany_ times upto onlyIn quoted alpha tokenChar alphanum
+    domainlabel toplabel hostname host port hostport ptpDomainDgts ptpDomain each first front segments
 ref-rows = each-where refBoth refBothQuick short ref-agree refRows refl refl
 
 abbrev writtenBothQuick : List ℕ → List ℕ × List RefKind
@@ -68,7 +71,11 @@ written-agree : (s : List ℕ) → short s ≡ true → writtenBoth s ≡ writte
 written-agree s h = rw (ref-plain s h) (pair refl (takers-same (clksrcOf published) quickRef ref-quick _ refKinds))
 
 pub ref-written : Each writtenBoth refWritten
-unfolding referenceClockText refMeaningText decimal digitsIn bytesAt refMeaning clockOf ntpOf hostOf bracketOf addressOf portOf ptpOf versionOf serverOf gmidOf domainOf bareRead extensionOf before beforePair throughLast same endsIn numberOf digitsOf allDigits valueFrom hexDigit eui64Of segmentsOf segmentOf highDigit cutAtEach ipAddress ipv6address ipv4address ls32 doubleColon h16colon h16 decOctet hexdig nothing range _or_ _then_ _thenMany_ times upto onlyIn quoted alpha tokenChar alphanum domainlabel toplabel hostname host port hostport ptpDomainDgts ptpDomain each first front segments
+unfolding referenceClockText refMeaningText decimal digitsIn bytesAt refMeaning clockOf ntpOf hostOf bracketOf addressOf portOf ptpOf versionOf
+    serverOf gmidOf domainOf bareRead extensionOf before beforePair throughLast same endsIn numberOf digitsOf allDigits valueFrom hexDigit eui64Of
+    segmentsOf segmentOf highDigit cutAtEach ipAddress ipv6address ipv4address ls32 doubleColon h16colon h16 decOctet hexdig nothing range _or_ _then_
+    _thenMany_ times upto onlyIn quoted alpha tokenChar alphanum domainlabel toplabel hostname host port hostport ptpDomainDgts ptpDomain each first
+    front segments
 ref-written = each-where writtenBoth writtenBothQuick short written-agree refWritten refl refl
 
 -- mediaclk
@@ -84,7 +91,9 @@ source-agree s h =
     (ap (λ a. mediaSaid s (asMediaClockSourceRead a)) (guarded-well s (sourceOf s) l w))
 
 pub source-rows : Each sourceBoth sourceRows
-unfolding mediaMeaning sourceOf taggedOf idOf tagOf mediaClockOf streamOf directOf offsetOf rateOf ratioOf denominatorOf extensionOf before same numberOf digitsOf allDigits valueFrom hexDigit eui64Of segmentsOf segmentOf highDigit cutAtEach hexdig nothing range _or_ _then_ _thenMany_ times onlyIn quoted alpha tokenChar base64Char base64 each first front segments cut
+unfolding mediaMeaning sourceOf taggedOf idOf tagOf mediaClockOf streamOf directOf offsetOf rateOf ratioOf denominatorOf extensionOf before same
+    numberOf digitsOf allDigits valueFrom hexDigit eui64Of segmentsOf segmentOf highDigit cutAtEach hexdig nothing range _or_ _then_ _thenMany_ times
+    onlyIn quoted alpha tokenChar base64Char base64 each first front segments cut
 source-rows = each-where sourceBoth sourceBothQuick short source-agree sourceRows refl refl
 
 -- texts that are not well-formed are refused by a law

@@ -59,7 +59,9 @@ module _ (t room part : List ℕ) (at from : ℕ) (f : from ≡ min at (length r
         size = length-append (take from room) part ∙ omega (arith, length-take from room);
         bytes = λ h.
             let e : from ≡ at = omega arith in
-            ap (λ (x : List ℕ). take from room ++ x) (front (omega arith) ∙ ap (λ (x : List ℕ). t ++ drop (length t) x) (rest-is from room) ∙ ap (λ (x : List ℕ). t ++ x) (drop-drop (length t) from room))
+            ap (λ (x : List ℕ). take from room ++ x)
+            (front (omega arith) ∙ ap (λ (x : List ℕ). t ++ drop (length t) x) (rest-is from room)
+            ∙ ap (λ (x : List ℕ). t ++ x) (drop-drop (length t) from room))
             ∙ sym (append-assoc (take from room) t (drop (from + length t) room))
             ∙ ap (λ (k : ℕ). take k room ++ t ++ drop (k + length t) room) e
             ∙ sym (sets-eq t room at h);
@@ -265,8 +267,14 @@ module _ {memory₀ : List ℕ} {begun : ℕ} {s room₀ : List ℕ} {t : Totals
   -- what was printed is no longer than all that is to print
   run-most : at + 6 * (length (drop i s) + 4098) ≤ 2 ^ 46
   run-most =
+      let later = endedFrom (take len memory) (drop i s) in
       let n : length (printed (v .done)) ≤ length (printed (endedFrom (take begun memory₀) s)) =
-      omega (arith, ap (λ (ls : List (List ℕ)). length (printed ls)) (v .lines), ap length (printed-append (v .done) (endedFrom (take len memory) (drop i s))), length-append (printed (v .done)) (printed (endedFrom (take len memory) (drop i s)))) in
+      omega (
+        arith,
+        ap (λ (ls : List (List ℕ)). length (printed ls)) (v .lines),
+        ap length (printed-append (v .done) later),
+        length-append (printed (v .done)) (printed later),
+      ) in
       omega (arith, v .text, v .front, v .passes .put .place, printed-bound (take begun memory₀) s, length-take begun memory₀, left)
 
   pub run-fits : (n : ℕ) (memory′ room′ : List ℕ) (a : Answered) → Ends memory len (take n (drop i s)) room at a memory′ room′ → Fits w64 (at + a .len)
@@ -274,8 +282,17 @@ module _ {memory₀ : List ℕ} {begun : ℕ} {s room₀ : List ℕ} {t : Totals
       let raw = take len memory ++ take n (drop i s) in
       record {
         fits =
-            omega
-            (arith, run-most, w .replies .put .place, reply-bound (withoutCr raw), without-short raw, length-append (take len memory) (take n (drop i s)), length-take n (drop i s), length-take len memory, v .size);
+            omega (
+              arith,
+              run-most,
+              w .replies .put .place,
+              reply-bound (withoutCr raw),
+              without-short raw,
+              length-append (take len memory) (take n (drop i s)),
+              length-take n (drop i s),
+              length-take len memory,
+              v .size,
+            );
       }
 
 -- the next LF stands at i + r, or there is none
@@ -324,7 +341,8 @@ module _ {memory₀ : List ℕ} {begun : ℕ} {s room₀ : List ℕ} {t : Totals
     none : length (drop i s) ≤ before 10 (drop i s)
     none = omega (arith, next, left v, v .within)
 
-    pub run-end : (n : ℕ) (memory′ : List ℕ) → Keeps memory len (rest i s) n memory′ → Runs memory₀ begun s room₀ t (record { len = n; past = progress at totals }) memory′ room
+    pub run-end : (n : ℕ) (memory′ : List ℕ) → Keeps memory len (rest i s) n memory′
+        → Runs memory₀ begun s room₀ t (record { len = n; past = progress at totals }) memory′ room
     run-end n memory′ k =
         let q = take len memory in
         let all : v .done ≡ endedFrom (take begun memory₀) s =
@@ -457,7 +475,11 @@ module _ (state : State) (memory s room : List ℕ) where
       feed-short g = does-nothing feed-prints (leb-false (length (feedText (view state memory) s)) (length room) (sym fits-same ∙ g))
 
       pub feed-done : z ≡ true → (r : Ran) (memory′ room′ : List ℕ) → Runs memory len s room (state .totals) r memory′ room′
-          → Feeds state memory s room (record { said = Filled (r .past .at); state = record { len = r .len; totals = r .past .totals; read = state .read + length s; closed = false } }) memory′ room′
+          → Feeds state memory s room
+          (record {
+            said = Filled (r .past .at);
+            state = record { len = r .len; totals = r .past .totals; read = state .read + length s; closed = false };
+          }) memory′ room′
       unfolding fed
       feed-done g r memory′ room′ w =
           let o = open-same state memory len e m in
@@ -469,7 +491,8 @@ module _ (state : State) (memory s room : List ℕ) where
           sym (length-take-le (r .len) (memoryAfter (length q) memory s) (omega (arith, w .short, memory-length (length q) memory s))) ∙ ap length b in
           let t : r .past .totals ≡ countedAll (state .totals) (endedFrom q s) = w .passes .totals ∙ ap (λ (x : List ℕ). countedAll (state .totals) (endedFrom x s)) o in
           rw k
-          (does-print feed-prints (leb-true (length (feedText (view state memory) s)) (length room) (sym fits-same ∙ g)) (rw o at (w .passes .put)) (cc (n, t)) (cc (b, t)))
+          (does-print feed-prints (leb-true (length (feedText (view state memory) s)) (length room) (sym fits-same ∙ g))
+          (rw o at (w .passes .put)) (cc (n, t)) (cc (b, t)))
 
 -- `close`
 module _ (state : State) (memory room : List ℕ) where

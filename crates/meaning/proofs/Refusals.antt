@@ -65,11 +65,13 @@ unfolding clockOf ntpOf hostOf bracketOf portOf beforePair throughLast same numb
 ntp-rows = each-where reason reasonPlain plain reason-plain (take 4 (drop 2 refusals)) refl (rw (bracket-first, letter-first, colon-alone))
 
 ptp-rows : Each reason (take 5 (drop 6 refusals))
-unfolding clockOf ptpOf versionOf serverOf gmidOf domainOf bareRead extensionOf before same numberOf digitsOf allDigits valueFrom hexDigit eui64Of segmentsOf segmentOf highDigit cutAtEach
+unfolding clockOf ptpOf versionOf serverOf gmidOf domainOf bareRead extensionOf before same numberOf digitsOf allDigits valueFrom hexDigit eui64Of
+    segmentsOf segmentOf highDigit cutAtEach
 ptp-rows = each-where reason reasonPlain plain reason-plain (take 5 (drop 6 refusals)) refl refl
 
 media-rows : Each reason (drop 11 refusals)
-unfolding sourceOf taggedOf idOf tagOf mediaClockOf streamOf directOf offsetOf rateOf ratioOf denominatorOf extensionOf before same numberOf digitsOf allDigits valueFrom hexDigit eui64Of segmentsOf segmentOf highDigit cutAtEach
+unfolding sourceOf taggedOf idOf tagOf mediaClockOf streamOf directOf offsetOf rateOf ratioOf denominatorOf extensionOf before same numberOf digitsOf
+    allDigits valueFrom hexDigit eui64Of segmentsOf segmentOf highDigit cutAtEach
 media-rows = each-where reason reasonPlain plain reason-plain (drop 11 refusals) refl refl
 
 pub refusals-hold : Each reason refusals

@@ -23,8 +23,10 @@ use Rattle.utf8.proofs.Text.{utf8-all-ascii}
 use Rattle.ipaddr.specs.Address.{hexdig, decOctet, ipv4address, h16, h16colon, doubleColon, ls32, ipv6address, ipAddress}
 use Rattle.meaning.specs.Answer.{extensionOf}
 use Rattle.meaning.specs.Domain.{bare, bareRead, bareText}
-use Rattle.meaning.specs.ReferenceClock.{portOf, addressOf, bracketOf, hostOf, ntpOf, versionOf, gmidOf, domainOf, serverOf, ptpOf, clockOf, referenceClockOf, asReferenceClockRead, readReferenceClock}
-use Rattle.meaning.specs.MediaClock.{denominatorOf, ratioOf, rateOf, offsetOf, directOf, streamOf, mediaClockOf, tagOf, idOf, taggedOf, sourceOf, mediaClockSourceOf, asMediaClockSourceRead, readMediaClockSource}
+use Rattle.meaning.specs.ReferenceClock.{portOf, addressOf, bracketOf, hostOf, ntpOf, versionOf, gmidOf, domainOf, serverOf, ptpOf, clockOf}
+use Rattle.meaning.specs.ReferenceClock.{referenceClockOf, asReferenceClockRead, readReferenceClock}
+use Rattle.meaning.specs.MediaClock.{denominatorOf, ratioOf, rateOf, offsetOf, directOf, streamOf, mediaClockOf, tagOf, idOf, taggedOf}
+use Rattle.meaning.specs.MediaClock.{sourceOf, mediaClockSourceOf, asMediaClockSourceRead, readMediaClockSource}
 use Rattle.meaning.specs.Meaning.{refMeaning, mediaMeaning}
 use Rattle.meaning.specs.Text.{refMeaningText, referenceClockText, sourceMeaningText, mediaClockSourceText}
 use Rattle.meaning.proofs.Told.{guarded-well}
@@ -80,9 +82,14 @@ module _ {A B : Type 0} (f g : A → B) (ok : A → Bool) (agree : (a : A) → o
           rw (agree (r .given) (and-left (ok (r .given)) (allOk rows) h), go rows (and-right (ok (r .given)) (allOk rows) h))
 
 pub edges-hold : Each said edges
-unfolding clockOf ntpOf hostOf bracketOf addressOf portOf ptpOf versionOf serverOf gmidOf domainOf bareRead extensionOf sourceOf taggedOf idOf tagOf mediaClockOf streamOf directOf offsetOf rateOf ratioOf denominatorOf referenceClockText refMeaningText refMeaning bareText mediaClockSourceText sourceMeaningText mediaMeaning before beforePair throughLast same endsIn bytesAt numberOf digitsOf allDigits valueFrom decimal digitsIn hexDigit hexCapital eui64Of segmentsOf segmentOf highDigit cutAtEach eui64Text segmentsText ipAddress ipv6address ipv4address ls32 doubleColon h16colon h16 decOctet hexdig nothing range _or_ _then_ times upto
+unfolding clockOf ntpOf hostOf bracketOf addressOf portOf ptpOf versionOf serverOf gmidOf domainOf bareRead extensionOf sourceOf taggedOf idOf tagOf
+    mediaClockOf streamOf directOf offsetOf rateOf ratioOf denominatorOf referenceClockText refMeaningText refMeaning bareText mediaClockSourceText
+    sourceMeaningText mediaMeaning before beforePair throughLast same endsIn bytesAt numberOf digitsOf allDigits valueFrom decimal digitsIn hexDigit
+    hexCapital eui64Of segmentsOf segmentOf highDigit cutAtEach eui64Text segmentsText ipAddress ipv6address ipv4address ls32 doubleColon h16colon h16
+    decOctet hexdig nothing range _or_ _then_ times upto
 edges-hold = each-where said saidPlain plain said-plain edges refl refl
 
 pub domains-hold : Each said domains
-unfolding clockOf ptpOf versionOf serverOf gmidOf domainOf bareRead referenceClockText refMeaningText refMeaning bareText before same bytesAt numberOf digitsOf allDigits valueFrom decimal digitsIn hexDigit hexCapital eui64Of segmentsOf segmentOf highDigit cutAtEach eui64Text segmentsText
+unfolding clockOf ptpOf versionOf serverOf gmidOf domainOf bareRead referenceClockText refMeaningText refMeaning bareText before same bytesAt numberOf
+    digitsOf allDigits valueFrom decimal digitsIn hexDigit hexCapital eui64Of segmentsOf segmentOf highDigit cutAtEach eui64Text segmentsText
 domains-hold = each-where said saidPlain plain said-plain domains refl refl

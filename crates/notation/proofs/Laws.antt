@@ -108,7 +108,9 @@ module _ {k j : ℕ} {t l : List ℕ} {array part : Lent} (e : length l ≡ k) (
   note-length = rw noted (p .bound)
 
 -- the text of a record just read there
-module _ {v t l : List ℕ} {inside : Bool} {a : Wrote} {n : ℕ} {array part : Lent} (can : Writable v inside t) (e : length l ≡ 1026) (w : Writes v inside t l a (array .now)) (f : n ≡ textLength a) (is : PartAt array (place 0 n) part) where
+module _ {v t l : List ℕ} {inside : Bool} {a : Wrote} {n : ℕ} {array part : Lent}
+    (can : Writable v inside t) (e : length l ≡ 1026) (w : Writes v inside t l a (array .now))
+    (f : n ≡ textLength a) (is : PartAt array (place 0 n) part) where
   wrote-all : wroteOf v inside t (length l) ≡ wrote.Length (length t)
   unfolding wroteOf
   wrote-all =
@@ -139,7 +141,9 @@ module _ {m : List ℕ} {n : ℕ} {a : Wrote} {texts text : Lent} (it : PartAt t
       → length m ≡ 1026 → media.Accepted s ≡ readMediaClockSource v → length (text .now) ≤ 1026
   source-text v s w e read = text-short (media-writable v s read) e w f it
 
-module _ (v : List ℕ) {l m room after : List ℕ} {j n : ℕ} {a : Wrote} {x : Answered} {notes texts note text : Lent} (q : Answers (okLine (note .now) (text .now)) room x after) (is : PartAt notes (place 0 j) note) (it : PartAt texts (place 0 n) text) (f : n ≡ textLength a) where
+module _ (v : List ℕ) {l m room after : List ℕ} {j n : ℕ} {a : Wrote} {x : Answered} {notes texts note text : Lent}
+    (q : Answers (okLine (note .now) (text .now)) room x after) (is : PartAt notes (place 0 j) note)
+    (it : PartAt texts (place 0 n) text) (f : n ≡ textLength a) where
   pub clock-said : (c : ReferenceClock) → Put 109 l 0 (referenceClockNote c) j (notes .now) → length l ≡ 109
       → Writes v (referenceClockInside v c) (referenceClockText v c) m a (texts .now) → length m ≡ 1026 → ref.Accepted c ≡ readReferenceClock v
       → Answers (okLine (referenceClockNote c) (referenceClockText v c)) room x after
@@ -179,4 +183,23 @@ module _ (v : List ℕ) (a : MediaClockSourceRead) (is : a ≡ readMediaClockSou
     unfolding mediaclkLine
     media-no r e p = rw (← is, e) p
 
-pub ruleset laws = (ok-short, ok-put, length-written, length-room, length-value, length-outside, clock-note, clock-text, clock-said, source-note, source-text, source-said, ref-read, ref-ok, ref-no, media-read, media-ok, media-no)
+pub ruleset laws = (
+  ok-short,
+  ok-put,
+  length-written,
+  length-room,
+  length-value,
+  length-outside,
+  clock-note,
+  clock-text,
+  clock-said,
+  source-note,
+  source-text,
+  source-said,
+  ref-read,
+  ref-ok,
+  ref-no,
+  media-read,
+  media-ok,
+  media-no,
+)

@@ -16,7 +16,8 @@ use Rattle.eui64.specs.Eui64.{cutAtEach, highDigit, segmentOf, segmentsOf, eui6
 use Rattle.ipaddr.specs.Address.{hexdig, decOctet, ipv4address, h16, h16colon, doubleColon, ls32, ipv6address, ipAddress}
 use Rattle.meaning.specs.Answer.{extensionOf}
 use Rattle.meaning.specs.Domain.{bare, bareRead}
-use Rattle.meaning.specs.ReferenceClock.{portOf, addressOf, bracketOf, hostOf, ntpOf, versionOf, gmidOf, domainOf, serverOf, ptpOf, clockOf, asReferenceClockRead}
+use Rattle.meaning.specs.ReferenceClock.{portOf, addressOf, bracketOf, hostOf, ntpOf, versionOf, gmidOf, domainOf, serverOf, ptpOf, clockOf}
+use Rattle.meaning.specs.ReferenceClock.{asReferenceClockRead}
 use Rattle.meaning.specs.Meaning.{refMeaning}
 use Rattle.meaning.proofs.Rows.{short, ref-plain, each-where}
 use Rattle.equal.specs.Said.{clockSays, sameNumbers, sameBehind, alikeSaid}
@@ -46,9 +47,14 @@ unfolding clockPlace
 place-plain v h = rw (ref-plain v h)
 
 pub pairs-hold : Each (ofPair sameClock) pairs
-unfolding clockOf ntpOf hostOf bracketOf addressOf portOf ptpOf versionOf serverOf gmidOf domainOf bareRead extensionOf refMeaning before beforePair throughLast same endsIn bytesAt numberOf digitsOf allDigits valueFrom hexDigit eui64Of segmentsOf segmentOf highDigit cutAtEach ipAddress ipv6address ipv4address ls32 doubleColon h16colon h16 decOctet hexdig nothing range _or_ _then_ times upto clockSays sameNumbers sameBehind alikeSaid alike hostsAlike
+unfolding clockOf ntpOf hostOf bracketOf addressOf portOf ptpOf versionOf serverOf gmidOf domainOf bareRead extensionOf refMeaning before beforePair
+    throughLast same endsIn bytesAt numberOf digitsOf allDigits valueFrom hexDigit eui64Of segmentsOf segmentOf highDigit cutAtEach ipAddress
+    ipv6address ipv4address ls32 doubleColon h16colon h16 decOctet hexdig nothing range _or_ _then_ times upto clockSays sameNumbers sameBehind
+    alikeSaid alike hostsAlike
 pairs-hold = each-where (ofPair sameClock) (ofPair plainSame) shortPair same-plain pairs refl refl
 
 pub places-hold : Each clockPlace places
-unfolding clockOf ntpOf hostOf bracketOf addressOf portOf ptpOf versionOf serverOf gmidOf domainOf bareRead extensionOf before beforePair throughLast same endsIn numberOf digitsOf allDigits valueFrom hexDigit eui64Of segmentsOf segmentOf highDigit cutAtEach ipAddress ipv6address ipv4address ls32 doubleColon h16colon h16 decOctet hexdig nothing range _or_ _then_ times upto gmidPlace namePlace
+unfolding clockOf ntpOf hostOf bracketOf addressOf portOf ptpOf versionOf serverOf gmidOf domainOf bareRead extensionOf before beforePair throughLast
+    same endsIn numberOf digitsOf allDigits valueFrom hexDigit eui64Of segmentsOf segmentOf highDigit cutAtEach ipAddress ipv6address ipv4address ls32
+    doubleColon h16colon h16 decOctet hexdig nothing range _or_ _then_ times upto gmidPlace namePlace
 places-hold = each-where clockPlace plainPlace short place-plain places refl refl

@@ -40,14 +40,16 @@ abbrev ptpLine : List ℕ
 ptpLine = word "a=ts-refclk:" ++ ptp
 
 ptp-reply : replyTo ptpLine ≡ reply Accepted (word "ok ptp=IEEE1588-2008:00-1B-C5-FF-FE-00-0A-01:37")
-unfolding replyTo clockOf ptpOf versionOf serverOf gmidOf domainOf bareRead referenceClockText refMeaningText refMeaning bareText before same bytesAt numberOf digitsOf allDigits valueFrom decimal digitsIn hexDigit hexCapital eui64Of segmentsOf segmentOf highDigit cutAtEach eui64Text segmentsText
+unfolding replyTo clockOf ptpOf versionOf serverOf gmidOf domainOf bareRead referenceClockText refMeaningText refMeaning bareText before same bytesAt
+    numberOf digitsOf allDigits valueFrom decimal digitsIn hexDigit hexCapital eui64Of segmentsOf segmentOf highDigit cutAtEach eui64Text segmentsText
 ptp-reply = ref-reply ptp refl
 
 abbrev directLine : List ℕ
 directLine = word "a=mediaclk:direct=+0 "
 
 direct-reply : replyTo directLine ≡ reply Accepted (word "ok direct=0")
-unfolding replyTo sourceOf mediaClockOf directOf offsetOf rateOf mediaClockSourceText sourceMeaningText mediaMeaning before same numberOf digitsOf allDigits valueFrom decimal digitsIn
+unfolding replyTo sourceOf mediaClockOf directOf offsetOf rateOf mediaClockSourceText sourceMeaningText mediaMeaning before same numberOf digitsOf
+    allDigits valueFrom decimal digitsIn
 direct-reply = media-reply (word "direct=+0 ") refl
 
 abbrev otherLine : List ℕ
@@ -61,7 +63,8 @@ abbrev ntpLine : List ℕ
 ntpLine = word "a=ts-refclk:ntp=:80"
 
 ntp-reply : replyTo ntpLine ≡ reply Refused (word "no 5 4 0")
-unfolding replyTo clockOf ntpOf hostOf noReply throughLast same decimal digitsIn ipAddress ipv6address ipv4address ls32 doubleColon h16colon h16 decOctet hexdig nothing range _or_ _then_ times upto
+unfolding replyTo clockOf ntpOf hostOf noReply throughLast same decimal digitsIn ipAddress ipv6address ipv4address ls32 doubleColon h16colon h16
+    decOctet hexdig nothing range _or_ _then_ times upto
 ntp-reply = ref-reply (word "ntp=:80") refl
 
 four-lines : linesOf worked-text ≡ ptpLine ∷ directLine ∷ otherLine ∷ ntpLine ∷ []
@@ -81,5 +84,6 @@ unfolding report totalsText decimal digitsIn
 worked =
     ap (λ (ls : List (List ℕ)). printed ls ++ totalsText (totalsOf ls)) four-lines
     ∙ four ptpLine directLine otherLine ntpLine
-    (reply Accepted (word "ok ptp=IEEE1588-2008:00-1B-C5-FF-FE-00-0A-01:37")) (reply Accepted (word "ok direct=0")) (reply Other (word "--")) (reply Refused (word "no 5 4 0"))
+    (reply Accepted (word "ok ptp=IEEE1588-2008:00-1B-C5-FF-FE-00-0A-01:37")) (reply Accepted (word "ok direct=0"))
+    (reply Other (word "--")) (reply Refused (word "no 5 4 0"))
     ptp-reply direct-reply other-reply ntp-reply

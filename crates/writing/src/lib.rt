@@ -27,7 +27,8 @@ fn measure_reference_clock(value: &[u8], clock: ReferenceClock) -> usize
 }
 
 pub fn write_reference_clock(clock: ReferenceClock, value: &[u8], room: &mut [u8]) -> Wrote
-    ensures { λ r. ⌜ Writes (now (value .entry)) (referenceClockInside (now (value .entry)) clock) (referenceClockText (now (value .entry)) clock) (now (room .entry)) r (now (room .exit)) ⌝ }
+    ensures { λ r. ⌜ Writes (now (value .entry)) (referenceClockInside (now (value .entry)) clock)
+        (referenceClockText (now (value .entry)) clock) (now (room .entry)) r (now (room .exit)) ⌝ }
 {
     let n = value.len();
     if MOST_BYTES < n {
@@ -60,7 +61,8 @@ fn measure_media_clock_source(value: &[u8], source: MediaClockSource) -> usize
 }
 
 pub fn write_media_clock_source(source: MediaClockSource, value: &[u8], room: &mut [u8]) -> Wrote
-    ensures { λ r. ⌜ Writes (now (value .entry)) (mediaClockSourceInside (now (value .entry)) source) (mediaClockSourceText (now (value .entry)) source) (now (room .entry)) r (now (room .exit)) ⌝ }
+    ensures { λ r. ⌜ Writes (now (value .entry)) (mediaClockSourceInside (now (value .entry)) source)
+        (mediaClockSourceText (now (value .entry)) source) (now (room .entry)) r (now (room .exit)) ⌝ }
 {
     let n = value.len();
     if MOST_BYTES < n {
