@@ -1,5 +1,5 @@
 //! The job of our program `clocklines` done with the Rust module: standard input to standard output, a line for each line, the totals last.
-//! What is accepted is read and written by the module alone; the number and place of a refusal come from document 01's table.
+//! What is accepted is read and written by the module alone; the number and place of a refusal come from the table of the rules.
 
 use compare::clock_signalling::{MediaClockSource, ReferenceClock};
 use compare::record::{Answer, Attribute};

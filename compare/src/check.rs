@@ -1,4 +1,4 @@
-//! The comparison of three: the line that `answers` printed, the module, and the paper's table. It counts what it compared.
+//! The comparison of three: the line that `answers` printed, the module, and the table of the rules. It counts what it compared.
 
 use crate::attributes::AttributeError;
 use crate::leaf;

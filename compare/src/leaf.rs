@@ -1,4 +1,4 @@
-//! Numbers, EUI-64s, UTF-8 and IP addresses, from the paper, RFC 3629 and RFC 3986. Nothing of std's parsing is used here, as std is among
+//! Numbers, EUI-64s, UTF-8 and IP addresses, from the rules, RFC 3629 and RFC 3986. Nothing of std's parsing is used here, as std is among
 //! what is compared.
 
 /// A number: an optional single `+`, then one or more decimal digits, leading zeros free, at most `limit`.

@@ -1,4 +1,4 @@
-//! Holds Njalemuur to the Rust module `clock_signalling` of sdp-types, which is built unchanged from where it lies, and to the paper's
+//! Holds Njalemuur to the Rust module `clock_signalling` of sdp-types, which is built unchanged from where it lies, and to the rules'
 //! table, written out here a second time in Rust.
 
 /// The module itself: `compare/run` gives its path.

@@ -1,4 +1,4 @@
-//! The rules of the paper in its order: what a value of either attribute reads as, which rule is the first to break and where, and how a
+//! The rules (docs/RULES.md) in their order: what a value of either attribute reads as, which rule is the first to break and where, and how a
 //! record is written. Written from the document, not from the module.
 
 use crate::leaf::{eui64, first_ill_formed, is_ip_address, number, BrokenEui64};

@@ -37,7 +37,7 @@ pub const PREFIXES: [(Attribute, &str); 31] = [
     (Mediaclk, "x="),
 ];
 
-/// The rows of the paper.
+/// The rows of the rules.
 pub const ROWS: [(Attribute, &str); 18] = [
     (TsRefclk, ""),
     (TsRefclk, "ntp=::1:8080"),

@@ -3,7 +3,8 @@
 // is read. The last line has the counts. Of a longer input the first 4,294,967,295 frames are read.
 ghost use Prim.Native.Nat.{_+_, _≤_};
 ghost use lib.ListN.{length};
-use answer::Answered;
+use briefreply::ReplySize;
+use libc::STDERR_FILENO;
 use libc::STDIN_FILENO;
 use libc::STDOUT_FILENO;
 use report::Kind;
@@ -11,14 +12,15 @@ use text::Place;
 
 const MOST_FRAMES: u64 = 4294967295;
 
-// The next frame, whose value stands at the front of the room for it; or none; or one that is cut.
+// The next frame, whose value stands at the front of the room for it; or none; or one that is cut; or the input could not be read.
 enum Frame {
     Value { reference: bool, len: usize },
     End,
     Cut,
+    Broken,
 }
 
-// What came of it: its value was accepted, or refused; or nothing more is read, since the input ended, or was cut, or a write failed.
+// What came of it: its value was accepted, or refused; or nothing more is read, since the input ended, or was cut, or a read or a write failed.
 enum Told {
     Ok,
     No,
@@ -37,14 +39,28 @@ fn value_length(high: u8, low: u8) -> usize {
     high as usize * 256 + low as usize
 }
 
-fn read_frame(value: &mut [u8]) -> Frame {
-    let mut head = [0u8; 3];
-    let got = io::read_full(STDIN_FILENO, &mut head);
+// Whether the input stopped because a read failed: at its end one more read answers 0.
+fn is_input_broken() -> bool {
+    let mut one = [0u8; 1];
+    libc::read(STDIN_FILENO, &mut one) != 0
+}
+
+// A frame of which only so many bytes came.
+fn short_frame(got: usize) -> Frame {
+    if is_input_broken() {
+        return Frame::Broken;
+    }
     if got == 0 {
         return Frame::End;
     }
+    Frame::Cut
+}
+
+fn read_frame(value: &mut [u8]) -> Frame {
+    let mut head = [0u8; 3];
+    let got = io::read_full(STDIN_FILENO, &mut head);
     if got < 3 {
-        return Frame::Cut;
+        return short_frame(got);
     }
     let reference = head[0] == b'r';
     if !reference && head[0] != b'm' {
@@ -56,16 +72,16 @@ fn read_frame(value: &mut [u8]) -> Frame {
         return Frame::Cut;
     }
     if io::read_full(STDIN_FILENO, &mut value[..len]) < len {
-        return Frame::Cut;
+        return short_frame(3);
     }
     Frame::Value { reference, len }
 }
 
-fn answer_value(reference: bool, value: &[u8], room: &mut [u8]) -> Answered {
+fn answer_value(reference: bool, value: &[u8], room: &mut [u8]) -> ReplySize {
     if reference {
-        return notation::answer_reference_clock(value, room);
+        return valueline::line_of_reference_clock(value, room);
     }
-    notation::answer_media_clock_source(value, room)
+    valueline::line_of_media_clock_source(value, room)
 }
 
 fn print_held(room: &[u8], held: usize) -> bool {
@@ -136,11 +152,23 @@ fn take_step(value: &mut [u8], room: &mut [u8], held: usize) -> Step
             told: Told::Cut,
             held,
         },
+        Frame::Broken => Step {
+            told: Told::Broken,
+            held,
+        },
     }
 }
 
 fn say(word: &[u8]) {
     io::write_all(STDOUT_FILENO, word);
+}
+
+// What was not read or not written whole has no counts, and says so.
+fn say_broken() {
+    io::write_all(
+        STDERR_FILENO,
+        b"the input could not be read, or the output not written: the counts are left out\n",
+    );
 }
 
 fn say_counts(ok: u64, no: u64)
@@ -176,11 +204,14 @@ fn main() {
                 cut = true;
                 break;
             }
-            // what was not written has no counts
-            Told::Broken => return,
+            Told::Broken => {
+                say_broken();
+                return;
+            }
         }
     }
     if !print_held(room, held) {
+        say_broken();
         return;
     }
     if cut {

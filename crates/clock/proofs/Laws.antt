@@ -1,9 +1,8 @@
 -- One law for each way out of what goes by a test or a case, its premises as the code's places give them. Assumes nothing.
 use Prim.Native.Nat.{ℕ, _<_, _≤_}
 use mathlib.Core.Path.{_≡_}
-use mathlib.Core.Bool.{_&&_}
-use lib.Dec.{ltb, eqb}
-use borrow.Author.Tests.{lt-ltb, le-ltb, eq-eqb, ne-eqb}
+use lib.Dec.{ltb}
+use borrow.Author.Tests.{lt-ltb, le-ltb}
 use Rattle.text.specs.declared.Place.{Place}
 use Rattle.text.proofs.Bools.{by-bool, clash}
 use Rattle.clock.specs.Records.{ptp}
@@ -43,13 +42,6 @@ module _ {A : Type 0} (make : PtpDomain → A) (refuse : ℕ → A) (n : ℕ) (t
   tried-refused k refused h =
       by-bool (ltb 127 n) (λ over. simp over (cc (simp over at e))) (λ within. clash (cc (simp within at e)))
 
-module _ (n d : ℕ) where
-  pub one-over : n ≡ 1 → eqb d 1 ≡ (eqb n 1 && eqb d 1)
-  one-over h = simp (eq-eqb n 1 h)
-
-  pub not-one : (n ≡ 1 → ⊥) → eqb n 1 ≡ (eqb n 1 && eqb d 1)
-  not-one h = simp (ne-eqb n 1 h)
-
 pub ruleset laws = (
   version-of-name,
   version-of-number,
@@ -57,6 +49,4 @@ pub ruleset laws = (
   domain-within,
   tried-made,
   tried-refused,
-  one-over,
-  not-one,
 )

@@ -1,10 +1,9 @@
-// The records of ts-refclk and mediaclk, under the names of the Rust module clock_signalling. A place stands for each text, and a case of
-// its own for what may be absent. The constructors and setters are in the two modules.
+// The records of ts-refclk, and what both attributes share, under the names of the Rust module clock_signalling. A place stands for each text, and
+// a case of its own for what may be absent. The constructors and setters are in the module.
 ghost use mathlib.Core.Path.{_≡_};
 ghost use Rattle.clock.specs.Refusal.{refusal};
 use text::Place;
 
-mod media;
 mod reference;
 
 // A refusal: the number of the rule that was broken, and the place of what breaks it.
@@ -119,64 +118,9 @@ pub enum OptValue {
     SomeValue(Place),
 }
 
-// What a mediaclk value says.
-pub struct MediaClockSource {
-    pub id: OptId,
-    pub clock: MediaClock,
-}
-
-pub enum MediaClock {
-    Sender,
-    Direct(Direct),
-    Ieee1722StreamId(Eui64),
-    Ext(MediaClockExt),
-}
-
-// A tag, and whether `src:` stands before it.
-pub struct MediaClockId {
-    pub src: bool,
-    pub tag: Place,
-}
-
-pub enum OptId {
-    NoId,
-    SomeId(MediaClockId),
-}
-
-pub struct Rate {
-    pub numerator: u32,
-    pub denominator: u32,
-}
-
-pub enum OptRate {
-    NoRate,
-    SomeRate(Rate),
-}
-
-pub struct Direct {
-    pub offset: OptOffset,
-    pub rate: OptRate,
-}
-
-pub enum OptOffset {
-    NoOffset,
-    SomeOffset(u32),
-}
-
-pub struct MediaClockExt {
-    pub name: Place,
-    pub value: OptValue,
-}
-
 // What reading a ts-refclk value answers.
 pub enum ReferenceClockRead {
     Accepted(ReferenceClock),
-    Refused(Refusal),
-}
-
-// What reading a mediaclk value answers.
-pub enum MediaClockSourceRead {
-    Accepted(MediaClockSource),
     Refused(Refusal),
 }
 

@@ -23,42 +23,50 @@ use crate::TriedReferenceClock;
 use text::Place;
 
 impl ReferenceClock {
+    // An NTP server by its host, without a port.
     pub fn from_ntp_hostname(hostname: Place) -> ReferenceClock
         ensures { λ r. ⌜ r ≡ ReferenceClock.Ntp (ntp (NtpServerAddr.HostPort hostname OptPort.NoPort)) ⌝ }
     {
         ReferenceClock::Ntp(Ntp::from_hostname(hostname))
     }
 
+    // An NTP server by its host, with a port.
     pub fn from_ntp_hostname_with_port(hostname: Place, port: u16) -> ReferenceClock
         ensures { λ r. ⌜ r ≡ ReferenceClock.Ntp (ntp (NtpServerAddr.HostPort hostname (OptPort.SomePort port))) ⌝ }
     {
         ReferenceClock::Ntp(Ntp::from_hostname_with_port(hostname, port))
     }
 
+    // NTP, traceable: no host and no port.
     pub fn new_ntp_traceable() -> ReferenceClock
         ensures { λ r. ⌜ r ≡ ReferenceClock.Ntp (ntp NtpServerAddr.Traceable) ⌝ }
     {
         ReferenceClock::Ntp(Ntp::new_traceable())
     }
 
+    // PTP of this version and this GMID, without a domain.
     pub fn from_ptp_gmid(version: PtpVersion, gmid: Eui64) -> ReferenceClock
         ensures { λ r. ⌜ r ≡ ReferenceClock.Ptp (ptp version (PtpServer.GmidDomain gmid OptDomain.NoDomain)) ⌝ }
     {
         ReferenceClock::Ptp(Ptp::from_gmid(version, gmid))
     }
 
+    // PTP of this GMID and domain: the domain's kind settles the version.
     pub fn from_ptp_gmid_with_domain(gmid: Eui64, domain: PtpDomain) -> ReferenceClock
         ensures { λ r. ⌜ r ≡ ReferenceClock.Ptp (ptp (versionFor domain) (PtpServer.GmidDomain gmid (OptDomain.SomeDomain domain))) ⌝ }
     {
         ReferenceClock::Ptp(Ptp::from_gmid_with_domain(gmid, domain))
     }
 
+    // PTP of this GMID and a domain by name, so of IEEE 1588-2002; the name may have any length.
     pub fn from_ptp_gmid_with_domain_name(gmid: Eui64, name: Place) -> ReferenceClock
-        ensures { λ r. ⌜ r ≡ ReferenceClock.Ptp (ptp PtpVersion.Ieee1588_2002 (PtpServer.GmidDomain gmid (OptDomain.SomeDomain (PtpDomain.DomainName name)))) ⌝ }
+        ensures { λ r. ⌜ r ≡ ReferenceClock.Ptp (ptp PtpVersion.Ieee1588_2002
+            (PtpServer.GmidDomain gmid (OptDomain.SomeDomain (PtpDomain.DomainName name)))) ⌝ }
     {
         ReferenceClock::Ptp(Ptp::from_gmid_with_domain_name(gmid, name))
     }
 
+    // PTP of this GMID and a domain by number, so of IEEE 1588-2008; a number over 127 is refused.
     pub fn try_from_ptp_gmid_with_domain_number(gmid: Eui64, number: u8) -> TriedReferenceClock
         ensures { λ r. ⌜ r ≡ triedReferenceClock gmid number ⌝ }
     {
@@ -70,30 +78,35 @@ impl ReferenceClock {
         }
     }
 
+    // PTP of this version, traceable: no GMID and no domain.
     pub fn new_ptp_traceable(version: PtpVersion) -> ReferenceClock
         ensures { λ r. ⌜ r ≡ ReferenceClock.Ptp (ptp version PtpServer.Traceable) ⌝ }
     {
         ReferenceClock::Ptp(Ptp::new_traceable(version))
     }
 
+    // A private clock that is not traceable.
     pub fn new_private_source_standard() -> ReferenceClock
         ensures { λ r. ⌜ r ≡ ReferenceClock.Private PrivateSource.Standard ⌝ }
     {
         ReferenceClock::from_private_source(PrivateSource::Standard)
     }
 
+    // A private clock that is traceable.
     pub fn new_private_source_traceable() -> ReferenceClock
         ensures { λ r. ⌜ r ≡ ReferenceClock.Private PrivateSource.Traceable ⌝ }
     {
         ReferenceClock::from_private_source(PrivateSource::Traceable)
     }
 
+    // An extension of this name, without a value.
     pub fn from_clock_source_ext_name(name: Place) -> ReferenceClock
         ensures { λ r. ⌜ r ≡ ReferenceClock.Ext (clockSourceExt name OptValue.NoValue) ⌝ }
     {
         ReferenceClock::Ext(ClockSourceExt::new(name))
     }
 
+    // An extension of this name with a value, which may be empty.
     pub fn from_clock_source_ext_name_with_value(name: Place, value: Place) -> ReferenceClock
         ensures { λ r. ⌜ r ≡ ReferenceClock.Ext (clockSourceExt name (OptValue.SomeValue value)) ⌝ }
     {
@@ -138,6 +151,7 @@ impl ReferenceClock {
 }
 
 impl Ntp {
+    // A host without a port.
     pub fn from_hostname(hostname: Place) -> Ntp
         ensures { λ r. ⌜ r ≡ ntp (NtpServerAddr.HostPort hostname OptPort.NoPort) ⌝ }
     {
@@ -147,6 +161,7 @@ impl Ntp {
         })
     }
 
+    // A host with a port.
     pub fn from_hostname_with_port(hostname: Place, port: u16) -> Ntp
         ensures { λ r. ⌜ r ≡ ntp (NtpServerAddr.HostPort hostname (OptPort.SomePort port)) ⌝ }
     {
@@ -156,6 +171,7 @@ impl Ntp {
         })
     }
 
+    // Traceable: no host and no port.
     pub fn new_traceable() -> Ntp
         ensures { λ r. ⌜ r ≡ ntp NtpServerAddr.Traceable ⌝ }
     {
@@ -170,6 +186,7 @@ impl Ntp {
 }
 
 impl NtpServerAddr {
+    // A host without a port.
     pub fn from_hostname(hostname: Place) -> NtpServerAddr
         ensures { λ r. ⌜ r ≡ NtpServerAddr.HostPort hostname OptPort.NoPort ⌝ }
     {
@@ -179,6 +196,7 @@ impl NtpServerAddr {
         }
     }
 
+    // A host with a port.
     pub fn from_hostname_with_port(hostname: Place, port: u16) -> NtpServerAddr
         ensures { λ r. ⌜ r ≡ NtpServerAddr.HostPort hostname (OptPort.SomePort port) ⌝ }
     {
@@ -188,6 +206,7 @@ impl NtpServerAddr {
         }
     }
 
+    // Traceable: no host and no port.
     pub fn new_traceable() -> NtpServerAddr
         ensures { λ r. ⌜ r ≡ NtpServerAddr.Traceable ⌝ }
     {
@@ -196,12 +215,14 @@ impl NtpServerAddr {
 }
 
 impl Ptp {
+    // A version and a server, which need not fit each other.
     pub fn new(version: PtpVersion, server: PtpServer) -> Ptp
         ensures { λ r. ⌜ r ≡ ptp version server ⌝ }
     {
         Ptp { version, server }
     }
 
+    // A GMID without a domain.
     pub fn from_gmid(version: PtpVersion, gmid: Eui64) -> Ptp
         ensures { λ r. ⌜ r ≡ ptp version (PtpServer.GmidDomain gmid OptDomain.NoDomain) ⌝ }
     {
@@ -214,6 +235,7 @@ impl Ptp {
         )
     }
 
+    // The domain's kind settles the version: a name 1588-2002, a number 1588-2008.
     pub fn from_gmid_with_domain(gmid: Eui64, domain: PtpDomain) -> Ptp
         ensures { λ r. ⌜ r ≡ ptp (versionFor domain) (PtpServer.GmidDomain gmid (OptDomain.SomeDomain domain)) ⌝ }
     {
@@ -227,12 +249,14 @@ impl Ptp {
         }
     }
 
+    // A domain by name, so of IEEE 1588-2002.
     pub fn from_gmid_with_domain_name(gmid: Eui64, name: Place) -> Ptp
         ensures { λ r. ⌜ r ≡ ptp PtpVersion.Ieee1588_2002 (PtpServer.GmidDomain gmid (OptDomain.SomeDomain (PtpDomain.DomainName name))) ⌝ }
     {
         Ptp::from_gmid_with_domain(gmid, PtpDomain::DomainName { name })
     }
 
+    // A domain by number, so of IEEE 1588-2008; a number over 127 is refused.
     pub fn try_from_gmid_with_domain_number(gmid: Eui64, number: u8) -> TriedPtp
         ensures { λ r. ⌜ r ≡ triedPtp gmid number ⌝ }
     {
@@ -245,6 +269,7 @@ impl Ptp {
         }
     }
 
+    // Traceable: no GMID and no domain.
     pub fn new_traceable(version: PtpVersion) -> Ptp
         ensures { λ r. ⌜ r ≡ ptp version PtpServer.Traceable ⌝ }
     {
@@ -259,6 +284,7 @@ impl Ptp {
 }
 
 impl PtpServer {
+    // A GMID without a domain.
     pub fn from_gmid(gmid: Eui64) -> PtpServer
         ensures { λ r. ⌜ r ≡ PtpServer.GmidDomain gmid OptDomain.NoDomain ⌝ }
     {
@@ -268,6 +294,7 @@ impl PtpServer {
         }
     }
 
+    // A GMID and a domain of either kind.
     pub fn from_gmid_with_domain(gmid: Eui64, domain: PtpDomain) -> PtpServer
         ensures { λ r. ⌜ r ≡ PtpServer.GmidDomain gmid (OptDomain.SomeDomain domain) ⌝ }
     {
@@ -277,6 +304,7 @@ impl PtpServer {
         }
     }
 
+    // A domain by name; a server has no version.
     pub fn from_gmid_with_domain_name(gmid: Eui64, name: Place) -> PtpServer
         ensures { λ r. ⌜ r ≡ PtpServer.GmidDomain gmid (OptDomain.SomeDomain (PtpDomain.DomainName name)) ⌝ }
     {
@@ -286,6 +314,7 @@ impl PtpServer {
         }
     }
 
+    // A domain by number; over 127 it is refused.
     pub fn try_from_ptp_gmid_with_domain_number(gmid: Eui64, number: u8) -> TriedPtpServer
         ensures { λ r. ⌜ r ≡ triedPtpServer gmid number ⌝ }
     {
@@ -298,6 +327,7 @@ impl PtpServer {
         }
     }
 
+    // Traceable: no GMID and no domain.
     pub fn new_traceable() -> PtpServer
         ensures { λ r. ⌜ r ≡ PtpServer.Traceable ⌝ }
     {
@@ -326,12 +356,14 @@ impl Eui64 {
 }
 
 impl PtpDomain {
+    // A name of any length, though only one of 16 bytes reads back as a name.
     pub fn from_name(name: Place) -> PtpDomain
         ensures { λ r. ⌜ r ≡ PtpDomain.DomainName name ⌝ }
     {
         PtpDomain::DomainName { name }
     }
 
+    // A number from 0 to 127; over that the number of the refusal, 10.
     pub fn try_from_number(number: u8) -> TriedPtpDomain
         ensures { λ r. ⌜ r ≡ triedPtpDomain number ⌝ }
     {
@@ -343,6 +375,7 @@ impl PtpDomain {
 }
 
 impl ClockSourceExt {
+    // A name without a value.
     pub fn new(name: Place) -> ClockSourceExt
         ensures { λ r. ⌜ r ≡ clockSourceExt name OptValue.NoValue ⌝ }
     {
@@ -352,6 +385,7 @@ impl ClockSourceExt {
         }
     }
 
+    // A name and a value, which may be empty.
     pub fn with_value(name: Place, value: Place) -> ClockSourceExt
         ensures { λ r. ⌜ r ≡ clockSourceExt name (OptValue.SomeValue value) ⌝ }
     {

@@ -1,34 +1,19 @@
 // Prints an answer for each line of standard input, which is read in fragments, and the totals.
 ghost use mathlib.Core.Path.{_≡_};
-ghost use Prim.Native.Nat.{_≤_, min};
+ghost use Prim.Native.Nat.{_≤_};
 ghost use lib.ListN.{length};
 use libc::STDERR_FILENO;
 use libc::STDIN_FILENO;
 use libc::STDOUT_FILENO;
-use lines::Said;
+use lines::Filling;
 use lines::State;
 use text::Place;
-
-// Of a longer input only so many bytes are read.
-const MOST_READ: usize = 4294967295;
 
 // How many bytes came, none at the end of the input; whether they were read and what is printed for them was written; and the state after them.
 struct Taken {
     read: usize,
     whole: bool,
     state: State,
-}
-
-fn least(a: usize, b: usize) -> usize
-    ensures { λ r. ⌜ r ≡ min a b ⌝ }
-{
-    if a < b { a } else { b }
-}
-
-fn open_line() -> [u8; 4098]
-    ensures { λ r. ⌜ 4098 ≡ length r ⌝ }
-{
-    [0; 4098]
 }
 
 fn input() -> [u8; 8192]
@@ -44,8 +29,8 @@ fn output() -> [u8; 73740]
     [0; 73740]
 }
 
-fn write_said(room: &[u8], said: Said) -> bool {
-    let Said::Filled(len) = said else {
+fn write_filling(room: &[u8], filling: Filling) -> bool {
+    let Filling::Filled(len) = filling else {
         return false;
     };
     io::write_all(STDOUT_FILENO, text::part(room, Place { start: 0, len }))
@@ -72,9 +57,9 @@ fn take_fragment(state: State, memory: &mut [u8; 4098], space: &mut [u8], room: 
         };
     }
     let fed = lines::feed(state, memory, &space[..n], room);
-    let said = fed.said;
+    let filling = fed.filling;
     let next = fed.state;
-    let whole = write_said(room, said);
+    let whole = write_filling(room, filling);
     Taken {
         read: n,
         whole,
@@ -91,15 +76,16 @@ fn say_broken() {
 }
 
 fn main() {
-    let mut memory = open_line();
+    let mut memory = lines::open_line();
     let mut buffer = input();
     let mut printed = output();
     let space: &mut [u8] = &mut buffer;
     let room: &mut [u8] = &mut printed;
     let mut state = lines::start();
-    let mut left = MOST_READ;
+    // of a longer input only so many bytes are read
+    let mut left = lines::MOST_READ;
     while 0 < left {
-        let most = least(left, space.len());
+        let most = text::least(left, space.len());
         let taken = take_fragment(state, &mut memory, &mut space[..most], room);
         if !taken.whole {
             say_broken();
@@ -112,8 +98,8 @@ fn main() {
         left -= taken.read;
     }
     let last = lines::close(state, &memory, room);
-    let said = last.said;
-    if !write_said(room, said) {
+    let filling = last.filling;
+    if !write_filling(room, filling) {
         say_broken();
     }
 }

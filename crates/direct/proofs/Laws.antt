@@ -17,15 +17,15 @@ use Rattle.number.specs.declared.Number.{Number}
 use Rattle.number.specs.declared.Number.the-variants as number
 use Rattle.number.specs.declared.Reason.{Reason}
 use Rattle.clock.specs.Refusal.{refusal}
-use Rattle.clock.specs.Records.{rate, direct}
+use Rattle.mediarecord.specs.Records.{rate, direct}
 use Rattle.clock.specs.declared.Refusal.{Refusal}
-use Rattle.clock.specs.declared.OptOffset.the-variants.{NoOffset, SomeOffset}
-use Rattle.clock.specs.declared.OptRate.{OptRate}
-use Rattle.clock.specs.declared.OptRate.the-variants.{NoRate, SomeRate}
-use Rattle.clock.specs.declared.Direct.{Direct}
+use Rattle.mediarecord.specs.declared.OptOffset.the-variants.{NoOffset, SomeOffset}
+use Rattle.mediarecord.specs.declared.OptRate.{OptRate}
+use Rattle.mediarecord.specs.declared.OptRate.the-variants.{NoRate, SomeRate}
+use Rattle.mediarecord.specs.declared.Direct.{Direct}
 use Rattle.meaning.specs.Answer.{Answer, accepted, refused}
 use Rattle.meaning.specs.MediaClock.{most32, denominatorOf, ratioOf, rateOf, offsetOf, directOf}
-use Rattle.direct.specs.Answers.{denominatorAnswer, rateAnswer}
+use Rattle.direct.specs.Private.AsAnswer.{denominatorAnswer, rateAnswer}
 use Rattle.direct.specs.declared.DenominatorRead.{DenominatorRead}
 use Rattle.direct.specs.declared.DenominatorRead.the-variants as denominator
 use Rattle.direct.specs.declared.RateRead.{RateRead}

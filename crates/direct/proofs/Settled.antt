@@ -1,6 +1,6 @@
 -- One answer alone meets the contract of `read_direct`. Assumes nothing.
 use Rattle.text.proofs.Bools.{clash}
-use Rattle.direct.specs.Answers.{DirectSettled}
+use Rattle.direct.specs.AsAnswer.{DirectSettled}
 use Rattle.direct.specs.declared.DirectRead.the-variants.{Accepted, Refused}
 
 pub direct-settled : DirectSettled

@@ -4,12 +4,13 @@ ghost use mathlib.Core.Path.{_≡_};
 ghost use Prim.Native.Nat.{_+_, _^_, _<_};
 ghost use lib.ListN.{length};
 ghost use Rattle.meaning.specs.MediaClock.{denominatorOf, ratioOf, rateOf, offsetOf, directOf};
-ghost use Rattle.direct.specs.Answers.{denominatorAnswer, rateAnswer, directAnswer};
-use clock::Direct;
-use clock::OptOffset;
-use clock::OptRate;
-use clock::Rate;
+ghost use Rattle.direct.specs.Private.AsAnswer.{denominatorAnswer, rateAnswer};
+ghost use Rattle.direct.specs.AsAnswer.{directAnswer};
 use clock::Refusal;
+use mediarecord::Direct;
+use mediarecord::OptOffset;
+use mediarecord::OptRate;
+use mediarecord::Rate;
 
 const MOST_32: u32 = 4294967295;
 
@@ -49,7 +50,7 @@ fn read_ratio(p: &[u8], at: usize) -> RateRead
     ensures { λ r. ⌜ rateAnswer r ≡ ratioOf at (now (p .entry)) ⌝ }
 {
     let n = p.len();
-    let i = text::find(p, b'/');
+    let i = search::find(p, b'/');
     if n <= i {
         return RateRead::Refused(Refusal::new(16, at, n));
     }
@@ -92,7 +93,7 @@ fn read_offset(p: &[u8], at: usize) -> DirectRead
     ensures { λ r. ⌜ directAnswer r ≡ offsetOf at (now (p .entry)) ⌝ }
 {
     let n = p.len();
-    let i = text::find(p, b' ');
+    let i = search::find(p, b' ');
     let got = number::read_number(&p[..i], MOST_32);
     let number::Number::Value(number) = got else {
         return DirectRead::Refused(Refusal::new(14, at, i));

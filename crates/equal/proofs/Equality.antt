@@ -11,17 +11,19 @@ use Rattle.text.proofs.Bools.{and-left, and-right, both}
 use Rattle.text.proofs.Cuts.{same-eq, same-refl}
 use Rattle.meaning.specs.Meaning.{Version, Server, Ratio, Tag, RefMeaning, MediaMeaning, SourceMeaning}
 use Rattle.meaning.specs.Meaning as means
-use Rattle.equal.specs.Said.{Said, says, versionKind, versionName, serverSays, clockSays, tagKind, tagBytes, mediaSays, sourceSays}
-use Rattle.equal.specs.Said.{sameNumbers, sameBehind, alikeSaid}
+use Rattle.equal.specs.Private.Flat.{Flat, says, versionKind, versionName, serverSays, clockSays, tagKind, tagBytes, mediaSays, sourceSays}
+use Rattle.equal.specs.Private.Flat.{sameNumbers, sameBehind, alikeFlat}
 use Rattle.equal.specs.Decides.{Decides}
-use Rattle.equal.specs.Alike.{Hosts, hostsAlike, OneClock, equal, servers, alike}
-use Rattle.equal.specs.Equality.{Equivalence, Yes, Classes, AlikeDecides}
+use Rattle.equal.specs.Alike.{Hosts, hostsAlike, OneClock, equal, servers}
+use Rattle.equal.specs.Private.Test.{alike}
+use Rattle.equal.specs.Equality.{Equivalence, Yes, Classes}
+use Rattle.equal.specs.Private.Test.{AlikeDecides}
 
 -- what is said, with another head
-abbrev headed : List ℕ → Said → Said
+abbrev headed : List ℕ → Flat → Flat
 headed h x = says (x .kind) (x .form) (x .first) (x .second) (x .third) h (x .name) (x .value)
 
-behind-self : (x : Said) → sameBehind x x ≡ true
+behind-self : (x : Flat) → sameBehind x x ≡ true
 unfolding sameBehind sameNumbers
 behind-self x = simp (eqb-self, same-refl)
   where
@@ -32,7 +34,7 @@ behind-self x = simp (eqb-self, same-refl)
 number-eq : (a b : ℕ) (t : Bool) → (eqb a b && t) ≡ true → (a ≡ b) × (t ≡ true)
 number-eq a b t e = (eqb-true a b (and-left (eqb a b) t e), and-right (eqb a b) t e)
 
-behind-eq : (x y : Said) → sameBehind x y ≡ true → headed (y .head) x ≡ y
+behind-eq : (x y : Flat) → sameBehind x y ≡ true → headed (y .head) x ≡ y
 unfolding sameBehind sameNumbers
 behind-eq x y e =
     let texts = same (x .name) (y .name) && same (x .value) (y .value) in
@@ -48,17 +50,17 @@ behind-eq x y e =
     all
 
 -- what alike shapes tell: the heads are alike, and all else is equal
-module _ (hosts : Hosts) (x y : Said) (e : alikeSaid hosts x y ≡ true) where
+module _ (hosts : Hosts) (x y : Flat) (e : alikeFlat hosts x y ≡ true) where
   alike-head : hosts (x .head) (y .head) ≡ true
-  unfolding alikeSaid
+  unfolding alikeFlat
   alike-head = and-left (hosts (x .head) (y .head)) (sameBehind x y) e
 
   alike-behind : headed (y .head) x ≡ y
-  unfolding alikeSaid
+  unfolding alikeFlat
   alike-behind = behind-eq x y (and-right (hosts (x .head) (y .head)) (sameBehind x y) e)
 
-are-alike : (hosts : Hosts) (x : Said) (g : List ℕ) → hosts (x .head) g ≡ true → alikeSaid hosts x (headed g x) ≡ true
-unfolding alikeSaid sameBehind sameNumbers
+are-alike : (hosts : Hosts) (x : Flat) (g : List ℕ) → hosts (x .head) g ≡ true → alikeFlat hosts x (headed g x) ≡ true
+unfolding alikeFlat sameBehind sameNumbers
 are-alike hosts x g h = both h (behind-self x)
 
 -- the meaning that says this
@@ -73,14 +75,14 @@ abbrev versionBack : ℕ → List ℕ → Version
 versionBack f s =
     cond (eqb f 0) means.ieee1588-2002 (cond (eqb f 1) means.ieee1588-2008 (cond (eqb f 2) means.ieee802-1as-2011 (means.ownVersion s)))
 
-abbrev serverBack : Said → Server
+abbrev serverBack : Flat → Server
 serverBack x =
     cond (eqb (x .first) 0) means.traceable
     (cond (eqb (x .first) 1) (means.gmid (x .second) none)
     (cond (eqb (x .first) 2) (means.gmid (x .second) (some (means.name (x .value))))
     (means.gmid (x .second) (some (means.number (x .third))))))
 
-clockBack : Said → RefMeaning
+clockBack : Flat → RefMeaning
 clockBack x =
     cond (eqb (x .kind) 0) means.ntpTraceable
     (cond (eqb (x .kind) 1) (means.ntpHost (x .head) (numberBack (x .first)))
@@ -154,14 +156,14 @@ abbrev rateBack : ℕ → ℕ → Option Ratio
 rateBack zero d = none
 rateBack (suc n) d = some (means.ratio n d)
 
-abbrev mediaBack : Said → MediaMeaning
+abbrev mediaBack : Flat → MediaMeaning
 mediaBack x =
     cond (eqb (x .kind) 0) means.sender
     (cond (eqb (x .kind) 1) (means.direct (numberBack (x .first)) (rateBack (x .second) (x .third)))
     (cond (eqb (x .kind) 2) (means.stream (x .first))
     (means.mediaExt (x .name) (bytesBack (x .first) (x .value)))))
 
-sourceBack : Said → SourceMeaning
+sourceBack : Flat → SourceMeaning
 sourceBack x = means.mediaSource (tagBack (x .form) (x .head)) (mediaBack x)
 
 tag-back : (t : Option Tag) → tagBack (tagKind t) (tagBytes t) ≡ t
@@ -185,7 +187,7 @@ unfolding sourceSays
 source-back (means.mediaSource id clock) =
     media-back (tagKind id) (tagBytes id) clock ∙ ap (λ (t : Option Tag). means.mediaSource t clock) (tag-back id)
 
-said-eq : (x y : Said) → alikeSaid same x y ≡ true → x ≡ y
+said-eq : (x y : Flat) → alikeFlat same x y ≡ true → x ≡ y
 said-eq x y e =
     let h = same-eq (x .head) (y .head) (alike-head same x y e) in
     ap (λ (g : List ℕ). headed g x) h ∙ alike-behind same x y e
@@ -232,7 +234,7 @@ clocks-decide m n =
       found = λ e. alike-found same m n same-refl (equal e);
     }
 
-pub sources-decide : (m n : SourceMeaning) → Decides (alikeSaid same (sourceSays m) (sourceSays n)) (m ≡ n)
+pub sources-decide : (m n : SourceMeaning) → Decides (alikeFlat same (sourceSays m) (sourceSays n)) (m ≡ n)
 sources-decide m n =
     let x = sourceSays m in
     let y = sourceSays n in

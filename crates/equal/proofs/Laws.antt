@@ -15,13 +15,13 @@ use Rattle.clock.specs.declared.OptDomain.{OptDomain}
 use Rattle.clock.specs.declared.OptDomain.the-variants.{NoDomain, SomeDomain}
 use Rattle.clock.specs.declared.OptValue.{OptValue}
 use Rattle.clock.specs.declared.OptValue.the-variants.{NoValue, SomeValue}
-use Rattle.clock.specs.declared.OptId.the-variants.{NoId, SomeId}
-use Rattle.clock.specs.declared.OptOffset.{OptOffset}
-use Rattle.clock.specs.declared.OptOffset.the-variants.{NoOffset, SomeOffset}
-use Rattle.clock.specs.declared.OptRate.the-variants.{NoRate, SomeRate}
-use Rattle.clock.specs.declared.Rate.{Rate}
+use Rattle.mediarecord.specs.declared.OptId.the-variants.{NoId, SomeId}
+use Rattle.mediarecord.specs.declared.OptOffset.{OptOffset}
+use Rattle.mediarecord.specs.declared.OptOffset.the-variants.{NoOffset, SomeOffset}
+use Rattle.mediarecord.specs.declared.OptRate.the-variants.{NoRate, SomeRate}
+use Rattle.mediarecord.specs.declared.Rate.{Rate}
 use Rattle.clock.specs.declared.Eui64.{Eui64}
-use Rattle.clock.specs.declared.Direct.{Direct}
+use Rattle.mediarecord.specs.declared.Direct.{Direct}
 use Rattle.clock.specs.declared.Ntp.{Ntp}
 use Rattle.clock.specs.declared.Ptp.{Ptp}
 use Rattle.clock.specs.declared.NtpServerAddr.{NtpServerAddr}
@@ -35,18 +35,20 @@ use Rattle.clock.specs.declared.PtpServer.the-variants as source
 use Rattle.clock.specs.declared.PrivateSource.{PrivateSource}
 use Rattle.clock.specs.declared.PrivateSource.the-variants as private
 use Rattle.clock.specs.declared.ClockSourceExt.{ClockSourceExt}
-use Rattle.clock.specs.declared.MediaClockExt.{MediaClockExt}
-use Rattle.clock.specs.declared.MediaClockId.{MediaClockId}
+use Rattle.mediarecord.specs.declared.MediaClockExt.{MediaClockExt}
+use Rattle.mediarecord.specs.declared.MediaClockId.{MediaClockId}
 use Rattle.clock.specs.declared.ReferenceClock.{ReferenceClock}
 use Rattle.clock.specs.declared.ReferenceClock.the-variants as clock
-use Rattle.clock.specs.declared.MediaClock.{MediaClock}
-use Rattle.clock.specs.declared.MediaClock.the-variants as media
-use Rattle.clock.specs.declared.MediaClockSource.{MediaClockSource}
+use Rattle.mediarecord.specs.declared.MediaClock.{MediaClock}
+use Rattle.mediarecord.specs.declared.MediaClock.the-variants as media
+use Rattle.mediarecord.specs.declared.MediaClockSource.{MediaClockSource}
 use Rattle.meaning.specs.Meaning.{refMeaning, offsetMeans, mediaMeaning}
-use Rattle.equal.specs.Said.{Said, orNone, clockSays, sourceSays, sameNumbers, sameBehind, alikeSaid}
+use Rattle.equal.specs.Private.Flat.{Flat, orNone, clockSays, sourceSays, sameNumbers, sameBehind, alikeFlat}
 use Rattle.equal.specs.Decides.{Decides}
-use Rattle.equal.specs.Alike.{Hosts, OneClock, alike, hostsAlike}
-use Rattle.equal.specs.Parts.{parts, over, Says, plainOver, extensionOver, ntpOver, serverOver, ptpOver, clockOver, directOver, mediaOver, sourceOver}
+use Rattle.equal.specs.Alike.{Hosts, OneClock, hostsAlike}
+use Rattle.equal.specs.Private.Test.{alike}
+use Rattle.equal.specs.Private.Parts.{parts, over, Says, plainOver, extensionOver, ntpOver}
+use Rattle.equal.specs.Private.Parts.{serverOver, ptpOver, clockOver, directOver, mediaOver, sourceOver}
 use Rattle.equal.specs.declared.parts.Parts.{Parts}
 use Rattle.equal.proofs.Equality.{alike-decides, clocks-decide, sources-decide, classes}
 
@@ -54,7 +56,7 @@ abbrev no-text : Place
 no-text = place 0 0
 
 -- parts that say one thing say what is equal to it
-also : {p : Parts} {f g : List ℕ → Said} → Says p f → ((v : List ℕ) → f v ≡ g v) → Says p g
+also : {p : Parts} {f g : List ℕ → Flat} → Says p f → ((v : List ℕ) → f v ≡ g v) → Says p g
 also s e = record { of = λ v. s .of v ∙ e v }
 
 module _ (k f : ℕ) (h : Place) (r : Parts) where
@@ -285,13 +287,13 @@ pub hosts-at : (v w a b : Lent) (p q : Place) (r : Bool) → PartAt v p a → Pa
 hosts-at v w a b p q r f g e = e ∙ simp (f .bytes, g .bytes)
 
 -- the comparisons: the head, then what is behind it
-module _ (hosts : Hosts) (x y : Said) (t : Bool) (et : t ≡ hosts (x .head) (y .head)) where
-  head-not : t ≡ false → false ≡ alikeSaid hosts x y
-  unfolding alikeSaid
+module _ (hosts : Hosts) (x y : Flat) (t : Bool) (et : t ≡ hosts (x .head) (y .head)) where
+  head-not : t ≡ false → false ≡ alikeFlat hosts x y
+  unfolding alikeFlat
   head-not e = simp (← et, e)
 
-  head-too : t ≡ true → (r : Bool) → r ≡ sameBehind x y → r ≡ alikeSaid hosts x y
-  unfolding alikeSaid
+  head-too : t ≡ true → (r : Bool) → r ≡ sameBehind x y → r ≡ alikeFlat hosts x y
+  unfolding alikeFlat
   head-too e r er = simp (← et, e, er)
 
 -- an answer that is equal to one that decides decides too
@@ -300,14 +302,14 @@ decides-as P q r e h = rw e h
 
 module _ (v w : List ℕ) (p q : Parts) (t : Bool) where
   module _ (c d : ReferenceClock) (sp : Says p (clockOver c)) (sq : Says q (clockOver d)) where
-    clocks-say : (hosts : Hosts) → alikeSaid hosts (over v p) (over w q) ≡ alike hosts (refMeaning v c) (refMeaning w d)
+    clocks-say : (hosts : Hosts) → alikeFlat hosts (over v p) (over w q) ≡ alike hosts (refMeaning v c) (refMeaning w d)
     unfolding alike clockOver
     clocks-say hosts = rw (sp .of v, sq .of w)
 
-    clocks-equal : (r : Bool) → r ≡ alikeSaid same (over v p) (over w q) → Decides r (refMeaning v c ≡ refMeaning w d)
+    clocks-equal : (r : Bool) → r ≡ alikeFlat same (over v p) (over w q) → Decides r (refMeaning v c ≡ refMeaning w d)
     clocks-equal r e = decides-as _ _ r (e ∙ clocks-say same) (clocks-decide (refMeaning v c) (refMeaning w d))
 
-    one-clock : (r : Bool) → r ≡ alikeSaid hostsAlike (over v p) (over w q) → Decides r (OneClock hostsAlike (refMeaning v c) (refMeaning w d))
+    one-clock : (r : Bool) → r ≡ alikeFlat hostsAlike (over v p) (over w q) → Decides r (OneClock hostsAlike (refMeaning v c) (refMeaning w d))
     one-clock r e = decides-as _ _ r (e ∙ clocks-say hostsAlike) (alike-decides hostsAlike (classes .of-hosts) (refMeaning v c) (refMeaning w d))
 
     module _ (et : t ≡ same (bytesAt (p .head) v) (bytesAt (q .head) w)) where
@@ -327,7 +329,7 @@ module _ (v w : List ℕ) (p q : Parts) (t : Bool) where
 
   module _ (m n : MediaClockSource) (sp : Says p (sourceOver m)) (sq : Says q (sourceOver n))
       (et : t ≡ same (bytesAt (p .head) v) (bytesAt (q .head) w)) where
-    sources-equal : (r : Bool) → r ≡ alikeSaid same (over v p) (over w q) → Decides r (mediaMeaning v m ≡ mediaMeaning w n)
+    sources-equal : (r : Bool) → r ≡ alikeFlat same (over v p) (over w q) → Decides r (mediaMeaning v m ≡ mediaMeaning w n)
     unfolding sourceOver
     sources-equal r e = decides-as _ _ r (rw (sp .of v, sq .of w) at e) (sources-decide (mediaMeaning v m) (mediaMeaning w n))
 

@@ -6,7 +6,6 @@ use mathlib.Core.Bool.{Bool, true}
 use mathlib.Core.Option.{Option}
 use Rattle.text.specs.Word.{same}
 use Rattle.meaning.specs.Meaning.{RefMeaning, ntpHost}
-use Rattle.equal.specs.Said.{clockSays, alikeSaid}
 
 -- a comparison of hosts
 abbrev pub Hosts : Type 0
@@ -20,7 +19,3 @@ hostsAlike s t = same s t
 pub data OneClock (hosts : Hosts) (m n : RefMeaning) : Type 0 where
   equal : m ≡ n → OneClock hosts m n
   servers : (h g : List ℕ) (port : Option ℕ) → hosts h g ≡ true → m ≡ ntpHost h port → n ≡ ntpHost g port → OneClock hosts m n
-
--- the same as a test, which computes; `AlikeDecides` in specs/Equality.antt says that it is the same
-unfoldable pub alike : Hosts → RefMeaning → RefMeaning → Bool
-alike hosts m n = alikeSaid hosts (clockSays m) (clockSays n)

@@ -2,8 +2,7 @@
 use mathlib.Core.Path.{_≡_}
 use mathlib.Core.Bool.{Bool, true}
 use Rattle.meaning.specs.Meaning.{RefMeaning}
-use Rattle.equal.specs.Decides.{Decides}
-use Rattle.equal.specs.Alike.{Hosts, hostsAlike, OneClock, alike}
+use Rattle.equal.specs.Alike.{Hosts, hostsAlike, OneClock}
 
 -- a relation that sorts into classes
 pub record Equivalence {A : Type 0} (R : A → A → Type 0) : Type 0 where
@@ -19,7 +18,3 @@ Yes test a b = test a b ≡ true
 pub record Classes : Type 0 where
   pub of-hosts : Equivalence (Yes hostsAlike)
   pub of-clocks : (hosts : Hosts) → Equivalence (Yes hosts) → Equivalence (OneClock hosts)
-
--- the test decides whether it is one clock
-abbrev pub AlikeDecides : Type 0
-AlikeDecides = (hosts : Hosts) → Equivalence (Yes hosts) → (m n : RefMeaning) → Decides (alike hosts m n) (OneClock hosts m n)

@@ -13,8 +13,8 @@ use Rattle.clock.specs.declared.OptPort.the-variants.{NoPort}
 use Rattle.clock.specs.declared.NtpServerAddr.the-variants.{HostPort}
 use Rattle.clock.specs.declared.ReferenceClock.the-variants.{Ntp}
 use Rattle.meaning.specs.Meaning.{RefMeaning, refMeaning, ntpHost, ptp, ownVersion, ieee1588-2008, traceable, gmid, name, number, gps, gal, refExt}
-use Rattle.equal.specs.Said.{clockSays, sameNumbers, sameBehind, alikeSaid}
-use Rattle.equal.specs.Alike.{alike}
+use Rattle.equal.specs.Private.Flat.{clockSays, sameNumbers, sameBehind, alikeFlat}
+use Rattle.equal.specs.Private.Test.{alike}
 
 -- absent is not empty, and a port that is absent is none that is 0
 clocks : Each (λ (p : RefMeaning × RefMeaning). alike same (p .0) (p .1)) (
@@ -28,7 +28,7 @@ clocks : Each (λ (p : RefMeaning × RefMeaning). alike same (p .0) (p .1)) (
     ∷ (ptp ieee1588-2008 (gmid 7 (some (number 5))), ptp ieee1588-2008 (gmid 7 (some (name (word "5"))))) gives false
     ∷ (refExt (word "x") none, refExt (word "x") (some [])) gives false
     ∷ [])
-unfolding alike alikeSaid sameBehind sameNumbers clockSays same
+unfolding alike alikeFlat sameBehind sameNumbers clockSays same
 clocks = refl
 
 -- where all hosts are taken for one, everything else still counts
@@ -37,7 +37,7 @@ hosts : Each (λ (p : RefMeaning × RefMeaning). alike (λ s t. true) (p .0) (p 
     ∷ (ntpHost (word "h") none, ntpHost (word "g") (some 80)) gives false
     ∷ (refExt (word "x") none, refExt (word "y") none) gives false
     ∷ [])
-unfolding alike alikeSaid sameBehind sameNumbers clockSays same
+unfolding alike alikeFlat sameBehind sameNumbers clockSays same
 hosts = refl
 
 -- the bytes count and not their places, and a place that reaches outside its value has the bytes that are there
@@ -49,5 +49,5 @@ places : Each (λ (p : (List ℕ × Place) × (List ℕ × Place)). alike same (
     ∷ ((word "ntp=h", place 4 1), (word "ntp=h", place 4 9)) gives true
     ∷ ((word "ntp=h", place 4 1), (word "ntp=g", place 4 1)) gives false
     ∷ [])
-unfolding refMeaning bytesAt alike alikeSaid sameBehind sameNumbers clockSays same
+unfolding refMeaning bytesAt alike alikeFlat sameBehind sameNumbers clockSays same
 places = refl

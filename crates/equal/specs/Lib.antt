@@ -1,7 +1,6 @@
--- What this crate's contracts cite (Decides, Alike), what that owes, examples of it, and the code's own shape (Said, Parts).
+-- What this crate's contracts cite (Decides, Alike), what that owes, examples of it, and the code's own shape (Flat, Parts).
 pub mod Decides
-pub mod Said
-pub mod Parts
 pub mod Alike
 pub mod Equality
 pub mod Examples
+pub mod Private

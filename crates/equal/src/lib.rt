@@ -7,10 +7,10 @@ ghost use Rattle.text.specs.Place.{bytesAt};
 ghost use Rattle.meaning.specs.Meaning.{refMeaning, mediaMeaning};
 ghost use Rattle.equal.specs.Decides.{Decides};
 ghost use Rattle.equal.specs.Alike.{hostsAlike, OneClock};
-ghost use Rattle.equal.specs.Said.{sameNumbers, sameBehind};
-ghost use Rattle.equal.specs.Parts.{over};
-use clock::MediaClockSource;
+ghost use Rattle.equal.specs.Private.Flat.{sameNumbers, sameBehind};
+ghost use Rattle.equal.specs.Private.Parts.{over};
 use clock::ReferenceClock;
+use mediarecord::MediaClockSource;
 use parts::Parts;
 use text::Place;
 

@@ -1,24 +1,25 @@
 // What a record says, in one shape for both attributes: its kinds and numbers, and the places of its texts. What a record does not have is 0 or
-// the empty place. specs/Said.antt has the columns of each kind.
+// the empty place. specs/Private/Flat.antt has the columns of each kind.
 ghost use mathlib.Core.Path.{_≡_};
 ghost use Rattle.meaning.specs.Meaning.{offsetMeans};
-ghost use Rattle.equal.specs.Said.{orNone};
-ghost use Rattle.equal.specs.Parts.{parts, Says, plainOver, extensionOver, ntpOver, serverOver, ptpOver, clockOver, directOver, mediaOver, sourceOver};
-use clock::Direct;
-use clock::MediaClock;
-use clock::MediaClockSource;
+ghost use Rattle.equal.specs.Private.Flat.{orNone};
+ghost use Rattle.equal.specs.Private.Parts.{parts, Says, plainOver, extensionOver, ntpOver, serverOver};
+ghost use Rattle.equal.specs.Private.Parts.{ptpOver, clockOver, directOver, mediaOver, sourceOver};
 use clock::NtpServerAddr;
 use clock::OptDomain;
-use clock::OptId;
-use clock::OptOffset;
 use clock::OptPort;
-use clock::OptRate;
 use clock::OptValue;
 use clock::PrivateSource;
 use clock::PtpDomain;
 use clock::PtpServer;
 use clock::PtpVersion;
 use clock::ReferenceClock;
+use mediarecord::Direct;
+use mediarecord::MediaClock;
+use mediarecord::MediaClockSource;
+use mediarecord::OptId;
+use mediarecord::OptOffset;
+use mediarecord::OptRate;
 use text::Place;
 
 // The head is a host or a tag.

@@ -93,7 +93,7 @@ pub fn read_eui64(s: &[u8]) -> Eui64Read
     while done < 8 {
         let at = done * 3;
         if !has_two_bytes(s, at) {
-            let len = text::find(&s[at..], b'-');
+            let len = search::find(&s[at..], b'-');
             return refuse(BrokenRule::SegmentLength, at, len);
         }
         let segment = read_segment(s[at], s[at + 1]);

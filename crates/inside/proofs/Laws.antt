@@ -29,13 +29,13 @@ use Rattle.clock.specs.declared.PrivateSource.{PrivateSource}
 use Rattle.clock.specs.declared.ClockSourceExt.{ClockSourceExt}
 use Rattle.clock.specs.declared.ReferenceClock.{ReferenceClock}
 use Rattle.clock.specs.declared.ReferenceClock.the-variants as clock
-use Rattle.clock.specs.declared.OptId.{OptId}
-use Rattle.clock.specs.declared.OptId.the-variants.{SomeId}
-use Rattle.clock.specs.declared.MediaClockId.{MediaClockId}
-use Rattle.clock.specs.declared.MediaClockExt.{MediaClockExt}
-use Rattle.clock.specs.declared.MediaClock.{MediaClock}
-use Rattle.clock.specs.declared.MediaClock.the-variants as media
-use Rattle.clock.specs.declared.MediaClockSource.{MediaClockSource}
+use Rattle.mediarecord.specs.declared.OptId.{OptId}
+use Rattle.mediarecord.specs.declared.OptId.the-variants.{SomeId}
+use Rattle.mediarecord.specs.declared.MediaClockId.{MediaClockId}
+use Rattle.mediarecord.specs.declared.MediaClockExt.{MediaClockExt}
+use Rattle.mediarecord.specs.declared.MediaClock.{MediaClock}
+use Rattle.mediarecord.specs.declared.MediaClock.the-variants as media
+use Rattle.mediarecord.specs.declared.MediaClockSource.{MediaClockSource}
 use Rattle.meaning.specs.Inside.{inside, valueInside, versionInside, domainInside, optDomainInside, serverInside, ntpInside, referenceClockInside}
 use Rattle.meaning.specs.Inside.{idInside, mediaInside, mediaClockSourceInside}
 

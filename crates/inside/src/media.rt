@@ -2,9 +2,9 @@
 ghost use mathlib.Core.Path.{_≡_};
 ghost use Rattle.meaning.specs.Inside.{idInside, mediaInside, mediaClockSourceInside};
 use crate::parts;
-use clock::MediaClock;
-use clock::MediaClockSource;
-use clock::OptId;
+use mediarecord::MediaClock;
+use mediarecord::MediaClockSource;
+use mediarecord::OptId;
 
 fn is_id_inside(value: &[u8], id: OptId) -> bool
     ensures { λ r. ⌜ r ≡ idInside (now (value .entry)) id ⌝ }

@@ -12,7 +12,7 @@ use Rattle.text.specs.Example.{Example, _gives_, Each}
 use Rattle.abnf.specs.Rule.{Rule, nothing, range, _or_, _then_, times, upto}
 use Rattle.abnf.proofs.Rules.{cut, cut-then}
 use Rattle.ipaddr.specs.Address.{hexdig, decOctet, ipv4address, h16, ipAddress}
-use Rattle.ipaddr.specs.Groups.{groups}
+use Rattle.ipaddr.specs.Private.Groups.{groups}
 use Rattle.ipaddr.proofs.Four.{octets, octet-lacks, four-octets}
 use Rattle.ipaddr.proofs.Groups.{groups-cut}
 use Rattle.ipaddr.proofs.Six.{any, six-forms}

@@ -17,7 +17,7 @@ use Rattle.abnf.proofs.Rules.{cut, cut-then, then-none, has-free}
 use Rattle.abnf.proofs.Places.{cut-at, free-at}
 use Rattle.abnf.proofs.Free.{Lacks, free-laws}
 use Rattle.ipaddr.specs.Address.{hexdig, h16, ipv4address}
-use Rattle.ipaddr.specs.Groups.{groups, Counted}
+use Rattle.ipaddr.specs.Private.Groups.{groups, Counted}
 use Rattle.ipaddr.proofs.Four.{four-lacks, four-dot, four-nil}
 
 -- a byte is HEXDIG exactly where it has a value below 16

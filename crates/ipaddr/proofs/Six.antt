@@ -16,7 +16,7 @@ use Rattle.abnf.proofs.Rules.{Tidy, cut, cut-then, cut-or, cut-none, then-or, t
 use Rattle.abnf.proofs.Places.{then-pair-at, cut-bad}
 use Rattle.abnf.proofs.Free.{lacks-nothing}
 use Rattle.ipaddr.specs.Address.{h16, h16colon, doubleColon, ls32, ipv4address, ipv6address, ipAddress}
-use Rattle.ipaddr.specs.Groups.{groups, Counted}
+use Rattle.ipaddr.specs.Private.Groups.{groups, Counted}
 use Rattle.ipaddr.proofs.Four.{four-lacks}
 use Rattle.ipaddr.proofs.Groups.{no-group, group-lacks, groups-cut, begun, begun-colon, groups-nil}
 

@@ -1,3 +1,3 @@
 -- The definitions that this crate's contracts cite.
 pub mod Address
-pub mod Groups
+pub mod Private

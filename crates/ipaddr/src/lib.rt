@@ -3,7 +3,7 @@ ghost use mathlib.Core.Path.{_≡_};
 ghost use lib.ListN.{length};
 ghost use Rattle.number.specs.Hex.{between};
 ghost use Rattle.ipaddr.specs.Address.{decOctet, ipv4address, h16, ipv6address, ipAddress};
-ghost use Rattle.ipaddr.specs.Groups.{Counted};
+ghost use Rattle.ipaddr.specs.Private.Groups.{Counted};
 
 // Whether `b` is a byte from `first` to `last`.
 fn is_between(b: u8, first: u8, last: u8) -> bool
@@ -67,7 +67,7 @@ pub fn is_ipv4_address(s: &[u8]) -> bool
     let mut dots: usize = 3;
     let mut at: usize = 0;
     while 0 < dots {
-        let n = text::find(&s[at..], b'.');
+        let n = search::find(&s[at..], b'.');
         if s.len() - at <= n {
             return false;
         }
@@ -111,13 +111,13 @@ fn count_groups(s: &[u8], four: bool) -> usize
     }
     let mut done: usize = 0;
     let mut at: usize = 0;
-    let mut n = text::find(s, b':');
+    let mut n = search::find(s, b':');
     while n < s.len() - at {
         let end = at + n;
         if is_h16(&s[at..end]) {
             done += 1;
             at = end + 1;
-            n = text::find(&s[at..], b':');
+            n = search::find(&s[at..], b':');
         } else {
             return 9;
         }
@@ -139,7 +139,7 @@ fn count_groups(s: &[u8], four: bool) -> usize
 pub fn is_ipv6_address(s: &[u8]) -> bool
     ensures { λ r. ⌜ r ≡ ipv6address (now (s .entry)) ⌝ }
 {
-    let gap = text::find_pair(s, b':', b':');
+    let gap = search::find_pair(s, b':', b':');
     if s.len() <= gap {
         return count_groups(s, true) == 8;
     }

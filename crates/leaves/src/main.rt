@@ -4,6 +4,7 @@ ghost use lib.ListN.{length};
 use eui64::BrokenRule;
 use eui64::Eui64Read;
 use eui64::Fault;
+use libc::STDERR_FILENO;
 use libc::STDIN_FILENO;
 use libc::STDOUT_FILENO;
 use number::Number;
@@ -88,7 +89,7 @@ fn say_lines(input: &[u8]) -> u64
     let mut lines: u64 = 0;
     let mut at: usize = 0;
     while at < input.len() {
-        let len = text::find(&input[at..], b'\n');
+        let len = search::find(&input[at..], b'\n');
         let end = at + len;
         say_line(&input[at..end]);
         lines += 1;
@@ -97,9 +98,19 @@ fn say_lines(input: &[u8]) -> u64
     lines
 }
 
+// Whether a read fails: at the end of the input it answers 0.
+fn is_input_broken() -> bool {
+    let mut one = [0u8; 1];
+    libc::read(STDIN_FILENO, &mut one) < 0
+}
+
 fn main() {
     let mut buffer = io::large_buffer();
     let n = io::read_full(STDIN_FILENO, &mut buffer);
+    if is_input_broken() {
+        io::write_all(STDERR_FILENO, b"the input could not be read\n");
+        return;
+    }
     let lines = say_lines(&buffer[..n]);
     say(b"lines ");
     say_number(lines);

@@ -12,27 +12,27 @@ use Rattle.report.specs.Report.{totalsOf}
 use Rattle.report.specs.Reader.{Reader, readerOf, feedText, fed, closeText, session}
 use Rattle.report.proofs.Whole.{any-cutting}
 use Rattle.lines.specs.declared.State.{State}
-use Rattle.lines.specs.declared.Said.{Said}
-use Rattle.lines.specs.declared.Said.the-variants.{Filled, Refused}
+use Rattle.lines.specs.declared.Filling.{Filling}
+use Rattle.lines.specs.declared.Filling.the-variants.{Filled, Refused}
 use Rattle.lines.specs.View.{view, stateOf}
-use Rattle.lines.specs.Call.{Outcome, prints, refuses, feedOutcome, closeOutcome, accepts, saidOf, roomOf}
+use Rattle.lines.specs.Call.{Outcome, prints, refuses, feedOutcome, closeOutcome, accepts, fillingOf, roomOf}
 use Rattle.lines.specs.Calls.{Calls, last, more, PrintTheReport}
 
 -- a call that filled n bytes printed a text, which stands at the room's front
-record Filling (o : Outcome) (room : List ℕ) (n : ℕ) : Type 0 where
+record Fills (o : Outcome) (room : List ℕ) (n : ℕ) : Type 0 where
   text : List ℕ
   is : o ≡ prints text
   accepted : accepts o (length room) ≡ true
   front : take n (roomOf o room) ≡ text
 
-abbrev bytesOf : Said → ℕ
+abbrev bytesOf : Filling → ℕ
 bytesOf (Filled n) = n
 bytesOf (Refused why) = 0
 
-filling : (o : Outcome) (room : List ℕ) (n : ℕ) → saidOf o (length room) ≡ Filled n → Filling o room n
-unfolding saidOf roomOf accepts
-filling (refuses why) room n e = clash (cc)
-filling (prints t) room n e =
+fills : (o : Outcome) (room : List ℕ) (n : ℕ) → fillingOf o (length room) ≡ Filled n → Fills o room n
+unfolding fillingOf roomOf accepts
+fills (refuses why) room n e = clash (cc)
+fills (prints t) room n e =
     by-bool (leb (length t) (length room))
     (λ f.
     let k : length t ≡ n = ap bytesOf (simp f at e) in
@@ -62,10 +62,10 @@ session-printed : {state : State} {memory : List ℕ} {fragments : List (List �
     → printed ≡ session (view state memory) fragments
 unfolding session
 session-printed (last state memory room r after n w e) =
-    let f = filling (closeOutcome (view state memory)) room n (sym (w .said) ∙ e) in
+    let f = fills (closeOutcome (view state memory)) room n (sym (w .filling) ∙ e) in
     ap (take n) (w .room) ∙ f .front ∙ close-is (view state memory) (f .text) (f .is)
 session-printed (more state memory s room r kept after n fragments printed w e calls) =
-    let f = filling (feedOutcome (view state memory) s) room n (sym (w .said) ∙ e) in
+    let f = fills (feedOutcome (view state memory) s) room n (sym (w .filling) ∙ e) in
     let next : view (r .state) kept ≡ fed (view state memory) s = simp (f .accepted) at (w .reader) in
     ap (λ (t : List ℕ). t ++ printed) (ap (take n) (w .room) ∙ f .front ∙ feed-is (view state memory) s (f .text) (f .is))
     ∙ ap (λ (t : List ℕ). feedText (view state memory) s ++ t) (session-printed calls ∙ ap (λ (q : Reader). session q fragments) next)

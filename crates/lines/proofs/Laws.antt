@@ -27,19 +27,19 @@ use Rattle.report.specs.declared.Totals.{Totals}
 use Rattle.report.proofs.Lines.{without-short, ended-first, open-first, ended-none, open-none, ended-alike, first-alike}
 use Rattle.report.proofs.Bounds.{reply-bound}
 use Rattle.report.proofs.Printed.{printed-append, printed-bound}
-use Rattle.answer.specs.Answers.{Answers, withFront}
-use Rattle.answer.specs.Plain.{plain, plainReply}
-use Rattle.answer.specs.declared.Answered.{Answered}
-use Rattle.answer.proofs.Laws.{plain-reply, plain-cut}
+use Rattle.briefreply.specs.Gives.{Gives, withFront}
+use Rattle.briefreply.specs.Plain.{plain, plainReply}
+use Rattle.briefreply.specs.declared.ReplySize.{ReplySize}
+use Rattle.briefreply.proofs.Laws.{plain-reply, plain-cut}
 use Rattle.lines.specs.declared.State.{State}
-use Rattle.lines.specs.declared.Said.the-variants.{Filled, Refused}
+use Rattle.lines.specs.declared.Filling.the-variants.{Filled, Refused}
 use Rattle.lines.specs.declared.Unfed.{Unfed}
 use Rattle.lines.specs.declared.Unfed.the-variants.{Closed, OverLimit, NoRoom}
 use Rattle.lines.specs.declared.Progress.{Progress}
 use Rattle.lines.specs.declared.Ran.{Ran}
 use Rattle.lines.specs.View.{view, stateOf, memoryAtEnd, memoryAfter}
-use Rattle.lines.specs.Call.{Outcome, prints, refuses, feedOutcome, closeOutcome, accepts, saidOf, roomOf, Does, Feeds, Closes}
-use Rattle.lines.specs.Steps.{Prints, Replied, Replies, progress, Passes, Keeps, Ends, Runs, finishText, Finishes}
+use Rattle.lines.specs.Call.{Outcome, prints, refuses, feedOutcome, closeOutcome, accepts, fillingOf, roomOf, Does, Feeds, Closes}
+use Rattle.lines.specs.Private.Steps.{Prints, Replied, Replies, progress, Passes, Keeps, Ends, Runs, finishText, Finishes}
 
 -- A text at the front of a part of the room, which begins at the place `at` or at the room's end if that comes first.
 module _ (t room part : List ℕ) (at from : ℕ) (f : from ≡ min at (length room)) (size : length part ≡ length (rest from room)) where
@@ -85,8 +85,8 @@ printed-one : (l : List ℕ) → printed (l ∷ []) ≡ replyTo l .says
 unfolding printed
 printed-one l = append-nil (replyTo l .says)
 
-pub reply-put : (x : Reply) (room part : List ℕ) (at from : ℕ) (a : Answered) → from ≡ min at (length room) → length part ≡ length (rest from room)
-    → Answers x (rest from room) a part → Replied x room at a (putMid from (length room - from) room part)
+pub reply-put : (x : Reply) (room part : List ℕ) (at from : ℕ) (a : ReplySize) → from ≡ min at (length room) → length part ≡ length (rest from room)
+    → Gives x (rest from room) a part → Replied x room at a (putMid from (length room - from) room part)
 unfolding withFront
 reply-put x room part at from a f size e =
     record {
@@ -98,23 +98,10 @@ reply-put x room part at from a f size e =
     }
 
 -- a line that is answered is passed, once it is counted too
-replies-pass : {line room after : List ℕ} {at : ℕ} {a : Answered} (t t₁ : Totals) → Replies line room at a after → t₁ ≡ counted t (a .kind)
+replies-pass : {line room after : List ℕ} {at : ℕ} {a : ReplySize} (t t₁ : Totals) → Replies line room at a after → t₁ ≡ counted t (a .kind)
     → Passes (line ∷ []) room (progress at t) (progress (at + a .len) t₁) after
 unfolding countedAll
 replies-pass {line = line} t t₁ q c = record { put = rw (printed-one line) (q .put); totals = c ∙ ap (counted t) (q .kind) }
-
--- `length_without_cr`
-pub cut-some : (raw : List ℕ) (x : ℕ) (b : Bool) → b ≡ endsIn x raw → b ≡ true → 1 ≤ length raw
-cut-some raw x b e h = ends-some x raw (sym e ∙ h)
-
-module _ (raw : List ℕ) (b : Bool) (e : b ≡ endsIn 13 raw) where
-  pub cut-length : b ≡ true → length raw - 1 ≡ length (withoutCr raw)
-  unfolding withoutCr
-  cut-length h = sym (simp (sym e ∙ h) (length-take-le (length raw - 1) raw (omega arith)))
-
-  pub plain-length : b ≡ false → length raw ≡ length (withoutCr raw)
-  unfolding withoutCr
-  plain-length h = simp (sym e ∙ h)
 
 -- `put_ended`
 without-front : (raw : List ℕ) → take (length (withoutCr raw)) raw ≡ withoutCr raw
@@ -128,7 +115,7 @@ module _ (raw : List ℕ) (n : ℕ) (e : n ≡ length (withoutCr raw)) where
   pub ended-length : n ≡ length (take n raw)
   ended-length = sym (length-take-le n raw (omega (arith, without-short raw)))
 
-  pub ended-put : (room : List ℕ) (at : ℕ) (a : Answered) (after : List ℕ) → Replies (take n raw) room at a after → Replies (withoutCr raw) room at a after
+  pub ended-put : (room : List ℕ) (at : ℕ) (a : ReplySize) (after : List ℕ) → Replies (take n raw) room at a after → Replies (withoutCr raw) room at a after
   ended-put room at a after q = rw (ap (λ (k : ℕ). take k raw) e ∙ without-front raw) at q
 
 -- `keep`
@@ -183,7 +170,7 @@ pub end-length : (memory : List ℕ) (len : ℕ) (part : List ℕ) (n : ℕ) (me
 end-length memory len part n memory′ k m =
     sym (length-take-le n memory′ (omega (arith, k .short, ap length (k .stored), length-sets memory len part)))
 
-module _ (memory : List ℕ) (len : ℕ) (part room : List ℕ) (at : ℕ) (a : Answered) (room′ : List ℕ) where
+module _ (memory : List ℕ) (len : ℕ) (part room : List ℕ) (at : ℕ) (a : ReplySize) (room′ : List ℕ) where
   pub end-whole : len ≡ 0 → Replies (withoutCr part) room at a room′ → Ends memory len part room at a memory room′
   end-whole e q = rw e (record { replies = q; stored = refl })
 
@@ -277,7 +264,7 @@ module _ {memory₀ : List ℕ} {begun : ℕ} {s room₀ : List ℕ} {t : Totals
       ) in
       omega (arith, v .text, v .front, v .passes .put .place, printed-bound (take begun memory₀) s, length-take begun memory₀, left)
 
-  pub run-fits : (n : ℕ) (memory′ room′ : List ℕ) (a : Answered) → Ends memory len (take n (drop i s)) room at a memory′ room′ → Fits w64 (at + a .len)
+  pub run-fits : (n : ℕ) (memory′ room′ : List ℕ) (a : ReplySize) → Ends memory len (take n (drop i s)) room at a memory′ room′ → Fits w64 (at + a .len)
   run-fits n memory′ room′ a w =
       let raw = take len memory ++ take n (drop i s) in
       record {
@@ -314,7 +301,7 @@ module _ {memory₀ : List ℕ} {begun : ℕ} {s room₀ : List ℕ} {t : Totals
     behind : drop (suc (i + r - i)) (drop i s) ≡ drop (i + r + 1) s
     behind = drop-drop (suc (i + r - i)) i s ∙ ap (λ (k : ℕ). drop k s) (let k : i + suc (i + r - i) ≡ i + r + 1 = omega (arith, next) in k)
 
-    pub run-turn : (memory′ room′ : List ℕ) (a : Answered) (totals′ : Totals) → length memory′ ≡ length memory
+    pub run-turn : (memory′ room′ : List ℕ) (a : ReplySize) (totals′ : Totals) → length memory′ ≡ length memory
         → Ends memory len (take (i + r - i) (drop i s)) room at a memory′ room′ → totals′ ≡ counted totals (a .kind)
         → Run memory₀ begun s room₀ t memory′ room′ (progress (at + a .len) totals′) 0 (i + r + 1)
     run-turn memory′ room′ a totals′ m w c =
@@ -374,7 +361,7 @@ module _ (last room : List ℕ) (t : Totals) (end : ℕ) (after : List ℕ) wher
       go [] e = record { put = p; totals = refl }
       go (b ∷ l) e = absurd (omega arith)
 
-  module _ (a : Answered) (m : List ℕ) (q : Replies last room 0 a m) where
+  module _ (a : ReplySize) (m : List ℕ) (q : Replies last room 0 a m) where
     pub finish-asks : length last ≤ 4098 → a .len ≤ 2 ^ 46
     finish-asks h = omega (arith, q .put .place, reply-bound last)
 
@@ -407,25 +394,25 @@ start-state = refl
 
 -- What a call does, by its outcome.
 module _ {o : Outcome} {next : Reader} {kept : List ℕ} {state : State} {memory room : List ℕ} where
-  does-refuse : {why : Unfed} → o ≡ refuses why → Does o next kept state memory room (record { said = Refused why; state = state }) memory room
-  unfolding saidOf roomOf accepts
-  does-refuse e = rw e (record { said = refl; room = refl; memory = refl; state = refl; reader = refl })
+  does-refuse : {why : Unfed} → o ≡ refuses why → Does o next kept state memory room (record { filling = Refused why; state = state }) memory room
+  unfolding fillingOf roomOf accepts
+  does-refuse e = rw e (record { filling = refl; room = refl; memory = refl; state = refl; reader = refl })
 
   module _ {t : List ℕ} (e : o ≡ prints t) where
-    does-nothing : length room < length t → Does o next kept state memory room (record { said = Refused NoRoom; state = state }) memory room
-    unfolding saidOf roomOf accepts
+    does-nothing : length room < length t → Does o next kept state memory room (record { filling = Refused NoRoom; state = state }) memory room
+    unfolding fillingOf roomOf accepts
     does-nothing h =
         let f : leb (length t) (length room) ≡ false = lt-leb (length t) (length room) h in
-        rw e (record { said = simp f; room = simp f; memory = simp f; state = simp f; reader = simp f })
+        rw e (record { filling = simp f; room = simp f; memory = simp f; state = simp f; reader = simp f })
 
     does-print : {n : ℕ} {state′ : State} {room′ : List ℕ} → length t ≤ length room → Prints t room 0 n room′ → state′ ≡ stateOf next → view state′ kept ≡ next
-        → Does o next kept state memory room (record { said = Filled n; state = state′ }) kept room′
-    unfolding saidOf roomOf accepts
+        → Does o next kept state memory room (record { filling = Filled n; state = state′ }) kept room′
+    unfolding fillingOf roomOf accepts
     does-print h p g v =
         let f : leb (length t) (length room) ≡ true = le-leb (length t) (length room) h in
         let n : _ ≡ length t = p .place ∙ zero-add (length t) in
         let b : _ ≡ t ++ drop (length t) room = p .bytes (omega arith) ∙ sets-eq t room 0 (omega arith) ∙ ap (λ (k : ℕ). t ++ drop k room) (zero-add (length t)) in
-        rw e (record { said = simp (f, n); room = simp f b; memory = simp f; state = simp f g; reader = simp f v })
+        rw e (record { filling = simp (f, n); room = simp f b; memory = simp f; state = simp f g; reader = simp f v })
 
 -- the length of the open line, within the memory
 module _ (state : State) (memory : List ℕ) (len : ℕ) (e : len ≡ min (state .len) 4098) (m : length memory ≡ 4098) where
@@ -453,12 +440,12 @@ memory-length n memory s =
 
 -- `feed`
 module _ (state : State) (memory s room : List ℕ) where
-  pub feed-closed : state .closed ≡ true → Feeds state memory s room (record { said = Refused Closed; state = state }) memory room
+  pub feed-closed : state .closed ≡ true → Feeds state memory s room (record { filling = Refused Closed; state = state }) memory room
   unfolding feedOutcome
   feed-closed c = does-refuse (simp c)
 
   module _ (c : state .closed ≡ false) where
-    pub feed-over : 4294967295 < state .read + length s → Feeds state memory s room (record { said = Refused OverLimit; state = state }) memory room
+    pub feed-over : 4294967295 < state .read + length s → Feeds state memory s room (record { filling = Refused OverLimit; state = state }) memory room
     unfolding feedOutcome
     feed-over h = does-refuse (simp (c, lt-ltb 4294967295 (state .read + length s) h))
 
@@ -471,13 +458,13 @@ module _ (state : State) (memory s room : List ℕ) where
       fits-same : z ≡ leb (length (feedText (view state memory) s)) (length room)
       fits-same = f ∙ ap (λ (q : List ℕ). leb (length (printed (endedFrom q s))) (length room)) (open-same state memory len e m)
 
-      pub feed-short : z ≡ false → Feeds state memory s room (record { said = Refused NoRoom; state = state }) memory room
+      pub feed-short : z ≡ false → Feeds state memory s room (record { filling = Refused NoRoom; state = state }) memory room
       feed-short g = does-nothing feed-prints (leb-false (length (feedText (view state memory) s)) (length room) (sym fits-same ∙ g))
 
       pub feed-done : z ≡ true → (r : Ran) (memory′ room′ : List ℕ) → Runs memory len s room (state .totals) r memory′ room′
           → Feeds state memory s room
           (record {
-            said = Filled (r .past .at);
+            filling = Filled (r .past .at);
             state = record { len = r .len; totals = r .past .totals; read = state .read + length s; closed = false };
           }) memory′ room′
       unfolding fed
@@ -496,7 +483,7 @@ module _ (state : State) (memory s room : List ℕ) where
 
 -- `close`
 module _ (state : State) (memory room : List ℕ) where
-  pub close-closed : state .closed ≡ true → Closes state memory room (record { said = Refused Closed; state = state }) room
+  pub close-closed : state .closed ≡ true → Closes state memory room (record { filling = Refused Closed; state = state }) room
   unfolding closeOutcome
   close-closed c = does-refuse (simp c)
 
@@ -510,11 +497,11 @@ module _ (state : State) (memory room : List ℕ) where
     unfolding closeText
     close-length = rw (open-same state memory len e m) at f
 
-    pub close-short : length room < n → Closes state memory room (record { said = Refused NoRoom; state = state }) room
+    pub close-short : length room < n → Closes state memory room (record { filling = Refused NoRoom; state = state }) room
     close-short h = does-nothing close-prints (omega (arith, close-length))
 
     pub close-done : n ≤ length room → (r : Progress) (room′ : List ℕ) → Finishes (take len memory) room (state .totals) r room′
-        → Closes state memory room (record { said = Filled (r .at); state = record { len = 0; totals = r .totals; read = state .read; closed = true } }) room′
+        → Closes state memory room (record { filling = Filled (r .at); state = record { len = 0; totals = r .totals; read = state .read; closed = true } }) room′
     unfolding closeText closed
     close-done h r room′ w =
         let x = rw (open-same state memory len e m) at w in
@@ -522,9 +509,6 @@ module _ (state : State) (memory room : List ℕ) where
 
 pub ruleset laws = (
   reply-put,
-  cut-some,
-  cut-length,
-  plain-length,
   ended-length,
   ended-put,
   keep-length,

@@ -8,8 +8,8 @@ use lib.ListN.{length, drop}
 use Rattle.report.specs.Reader.{Reader, feedText, fed, closeText, closed}
 use Rattle.lines.specs.declared.State.{State}
 use Rattle.lines.specs.declared.Fed.{Fed}
-use Rattle.lines.specs.declared.Said.{Said}
-use Rattle.lines.specs.declared.Said.the-variants.{Filled, Refused}
+use Rattle.lines.specs.declared.Filling.{Filling}
+use Rattle.lines.specs.declared.Filling.the-variants.{Filled, Refused}
 use Rattle.lines.specs.declared.Unfed.{Unfed}
 use Rattle.lines.specs.declared.Unfed.the-variants.{Closed, OverLimit, NoRoom}
 use Rattle.lines.specs.View.{view, stateOf, memoryAfter}
@@ -35,9 +35,9 @@ accepts (prints t) n = leb (length t) n
 accepts (refuses why) n = false
 
 -- its answer: how many bytes it filled, or why it was refused
-unfoldable pub saidOf : Outcome → ℕ → Said
-saidOf (prints t) n = cond (leb (length t) n) (Filled (length t)) (Refused NoRoom)
-saidOf (refuses why) n = Refused why
+unfoldable pub fillingOf : Outcome → ℕ → Filling
+fillingOf (prints t) n = cond (leb (length t) n) (Filled (length t)) (Refused NoRoom)
+fillingOf (refuses why) n = Refused why
 
 -- the room then: the text at its front and the bytes behind it as they were; where the call was refused every byte as it was
 unfoldable pub roomOf : Outcome → List ℕ → List ℕ
@@ -47,7 +47,7 @@ roomOf (refuses why) room = room
 -- A call on a state beside its memory. Where it is accepted, the reader that they stand for is `next` then, and the memory is `kept`; where it is
 -- refused they are as they were.
 pub record Does (outcome : Outcome) (next : Reader) (kept : List ℕ) (state₀ : State) (memory₀ room₀ : List ℕ) (r : Fed) (memory₁ room₁ : List ℕ) : Type 0 where
-  pub said : r .said ≡ saidOf outcome (length room₀)
+  pub filling : r .filling ≡ fillingOf outcome (length room₀)
   pub room : room₁ ≡ roomOf outcome room₀
   pub memory : memory₁ ≡ cond (accepts outcome (length room₀)) kept memory₀
   pub state : r .state ≡ cond (accepts outcome (length room₀)) (stateOf next) state₀

@@ -2,4 +2,4 @@
 pub mod View
 pub mod Call
 pub mod Calls
-pub mod Steps
+pub mod Private

@@ -2,24 +2,24 @@
 // lines that end in it are answered with, or is refused and changes nothing.
 ghost use mathlib.Core.Path.{_≡_};
 ghost use mathlib.Core.List.{[]};
-ghost use Prim.Native.Nat.{_^_, _≤_, min};
+ghost use Prim.Native.Nat.{_^_, _≤_};
 ghost use lib.Dec.{leb};
-ghost use lib.ListN.{length};
+ghost use lib.ListN.{length, replicate};
 ghost use Rattle.report.specs.Lines.{withoutCr, endedFrom};
 ghost use Rattle.report.specs.Report.{printed, totalsText};
 ghost use Rattle.report.specs.Reader.{readerOf};
-ghost use Rattle.answer.specs.Plain.{plainReply};
+ghost use Rattle.briefreply.specs.Plain.{plainReply};
 ghost use Rattle.lines.specs.View.{stateOf};
 ghost use Rattle.lines.specs.Call.{Feeds, Closes};
-ghost use Rattle.lines.specs.Steps.{Prints, Replied, Replies, Keeps, Ends, Runs, finishText, Finishes};
-use answer::Answered;
+ghost use Rattle.lines.specs.Private.Steps.{Prints, Replied, Replies, Keeps, Ends, Runs, finishText, Finishes};
+use briefreply::ReplySize;
 use report::Totals;
 
 // How many bytes of the open line are kept: a line of so many is long whatever follows.
 const MOST_KEPT: usize = 4098;
 
 // How many bytes a text may have.
-const MOST_READ: usize = 4294967295;
+pub const MOST_READ: usize = 4294967295;
 
 // The open line has `len` bytes at the memory's front; `totals` are those of the lines before it.
 pub struct State {
@@ -37,13 +37,13 @@ pub enum Unfed {
 }
 
 // How many bytes of the room were filled, or why nothing was done.
-pub enum Said {
+pub enum Filling {
     Filled(usize),
     Refused(Unfed),
 }
 
 pub struct Fed {
-    pub said: Said,
+    pub filling: Filling,
     pub state: State,
 }
 
@@ -59,44 +59,27 @@ struct Ran {
     past: Progress,
 }
 
-fn least(a: usize, b: usize) -> usize
-    ensures { λ r. ⌜ r ≡ min a b ⌝ }
-{
-    if a < b { a } else { b }
-}
-
 // A line without its end is answered. Where the room ends before the place, the answer is only measured.
-fn put_line(line: &[u8], room: &mut [u8], at: usize) -> Answered
+fn put_line(line: &[u8], room: &mut [u8], at: usize) -> ReplySize
     ensures { λ r. ⌜ Replies (now (line .entry)) (now (room .entry)) at r (now (room .exit)) ⌝ }
 {
-    let from = least(at, room.len());
-    answer::answer_line(line, &mut room[from..])
+    let from = text::least(at, room.len());
+    reply::reply_to_line(line, &mut room[from..])
 }
 
 // The same of a line that is seen at once to be no clock line.
-fn put_plain(room: &mut [u8], at: usize) -> Answered
+fn put_plain(room: &mut [u8], at: usize) -> ReplySize
     ensures { λ r. ⌜ Replied plainReply (now (room .entry)) at r (now (room .exit)) ⌝ }
 {
-    let from = least(at, room.len());
-    answer::answer_plain(&mut room[from..])
-}
-
-// How long a line is that an LF ended, without one CR before that.
-fn length_without_cr(raw: &[u8]) -> usize
-    ensures { λ r. ⌜ r ≡ length (withoutCr (now (raw .entry))) ⌝ }
-{
-    let n = raw.len();
-    if text::ends_in(raw, b'\r') {
-        return n - 1;
-    }
-    n
+    let from = text::least(at, room.len());
+    briefreply::reply_to_plain(&mut room[from..])
 }
 
 // A line that an LF ended is answered.
-fn put_ended(raw: &[u8], room: &mut [u8], at: usize) -> Answered
+fn put_ended(raw: &[u8], room: &mut [u8], at: usize) -> ReplySize
     ensures { λ r. ⌜ Replies (withoutCr (now (raw .entry))) (now (room .entry)) at r (now (room .exit)) ⌝ }
 {
-    let n = length_without_cr(raw);
+    let n = lineend::length_without_cr(raw);
     put_line(&raw[..n], room, at)
 }
 
@@ -105,17 +88,17 @@ fn keep(memory: &mut [u8], len: usize, part: &[u8]) -> usize
     requires { ⌜ (length (now memory) ≡ 4098) × (len ≤ 4098) ⌝ }
     ensures { λ r. ⌜ Keeps (now (memory .entry)) len (now (part .entry)) r (now (memory .exit)) ⌝ }
 {
-    let n = least(part.len(), MOST_KEPT - len);
+    let n = text::least(part.len(), MOST_KEPT - len);
     room::put_bytes(memory, len, &part[..n])
 }
 
 // The open line ends with a part. Where all of it lies in the part, it is answered where it lies; most lines are plain, and cost no call then.
-fn end_line(memory: &mut [u8], len: usize, part: &[u8], room: &mut [u8], at: usize) -> Answered
+fn end_line(memory: &mut [u8], len: usize, part: &[u8], room: &mut [u8], at: usize) -> ReplySize
     requires { ⌜ (length (now memory) ≡ 4098) × (len ≤ 4098) ⌝ }
     ensures { λ r. ⌜ Ends (now (memory .entry)) len (now (part .entry)) (now (room .entry)) at r (now (memory .exit)) (now (room .exit)) ⌝ }
 {
     if len == 0 {
-        if answer::is_plain(part) {
+        if briefreply::is_plain(part) {
             return put_plain(room, at);
         }
         return put_ended(part, room, at);
@@ -134,7 +117,7 @@ fn run(memory: &mut [u8], begun: usize, text: &[u8], room: &mut [u8], before: To
     let mut len = begun;
     let mut i = 0;
     loop {
-        let e = i + text::find_far(&text[i..], b'\n');
+        let e = i + search::find_far(&text[i..], b'\n');
         if text.len() <= e {
             break;
         }
@@ -157,7 +140,7 @@ fn put_totals(room: &mut [u8], at: usize, totals: Totals) -> usize
     requires { ⌜ at ≤ 2 ^ 46 ⌝ }
     ensures { λ r. ⌜ Prints (totalsText totals) (now (room .entry)) at r (now (room .exit)) ⌝ }
 {
-    let from = least(at, room.len());
+    let from = text::least(at, room.len());
     at + tally::put_totals(totals, &mut room[from..])
 }
 
@@ -190,12 +173,6 @@ fn finish_length(last: &[u8], totals: Totals) -> usize
     measured.at
 }
 
-fn zeros() -> [u8; 4098]
-    ensures { λ r. ⌜ 4098 ≡ length r ⌝ }
-{
-    [0; 4098]
-}
-
 // Whether so many bytes of room are enough for what a fragment prints. Where they are not surely enough, the fragment is run into no room, with
 // a copy of the open line.
 fn fits(begun: &[u8], text: &[u8], totals: Totals, room: usize) -> bool
@@ -206,12 +183,19 @@ fn fits(begun: &[u8], text: &[u8], totals: Totals, room: usize) -> bool
     if most <= room {
         return true;
     }
-    let mut copy = zeros();
+    let mut copy = open_line();
     let mut none = [0u8; 1];
     let scratch: &mut [u8] = &mut copy;
     let len = keep(scratch, 0, begun);
     let ran = run(scratch, len, text, &mut none[..0], totals);
     ran.past.at <= room
+}
+
+// Memory for the open line: zeros, though it may hold anything.
+pub fn open_line() -> [u8; 4098]
+    ensures { λ r. ⌜ (r ≡ replicate 4098 0) × (4098 ≡ length r) ⌝ }
+{
+    [0; 4098]
 }
 
 // The state before any text, beside memory of any contents.
@@ -238,24 +222,24 @@ pub fn feed(state: State, memory: &mut [u8; 4098], text: &[u8], room: &mut [u8])
 {
     let closed = state.closed;
     if closed {
-        let said = Said::Refused(Unfed::Closed);
-        return Fed { said, state };
+        let filling = Filling::Refused(Unfed::Closed);
+        return Fed { filling, state };
     }
     let all = state.read as usize + text.len();
     if MOST_READ < all {
-        let said = Said::Refused(Unfed::OverLimit);
-        return Fed { said, state };
+        let filling = Filling::Refused(Unfed::OverLimit);
+        return Fed { filling, state };
     }
     let read = all as u32;
     let line: &mut [u8] = memory;
-    let len = least(state.len, MOST_KEPT);
+    let len = text::least(state.len, MOST_KEPT);
     let totals = state.totals;
     if fits(&line[..len], text, totals, room.len()) {
         let ran = run(line, len, text, room, totals);
         let past = ran.past;
         let after = past.totals;
         return Fed {
-            said: Said::Filled(past.at),
+            filling: Filling::Filled(past.at),
             state: State {
                 len: ran.len,
                 totals: after,
@@ -264,8 +248,8 @@ pub fn feed(state: State, memory: &mut [u8; 4098], text: &[u8], room: &mut [u8])
             },
         };
     }
-    let said = Said::Refused(Unfed::NoRoom);
-    Fed { said, state }
+    let filling = Filling::Refused(Unfed::NoRoom);
+    Fed { filling, state }
 }
 
 // The end of the text: the last line, where there is one, and the totals.
@@ -274,20 +258,20 @@ pub fn close(state: State, memory: &[u8; 4098], room: &mut [u8]) -> Fed
 {
     let closed = state.closed;
     if closed {
-        let said = Said::Refused(Unfed::Closed);
-        return Fed { said, state };
+        let filling = Filling::Refused(Unfed::Closed);
+        return Fed { filling, state };
     }
     let line: &[u8] = memory;
-    let len = least(state.len, MOST_KEPT);
+    let len = text::least(state.len, MOST_KEPT);
     let totals = state.totals;
     if room.len() < finish_length(&line[..len], totals) {
-        let said = Said::Refused(Unfed::NoRoom);
-        return Fed { said, state };
+        let filling = Filling::Refused(Unfed::NoRoom);
+        return Fed { filling, state };
     }
     let done = finish(&line[..len], room, totals);
     let after = done.totals;
     Fed {
-        said: Said::Filled(done.at),
+        filling: Filling::Filled(done.at),
         state: State {
             len: 0,
             totals: after,

@@ -1,12 +1,7 @@
 // The arguments of a frame, as compare/src/calls.rs lays them out: each function takes those that it needs.
 ghost use Prim.Native.Nat.{_≤_};
 use clock::ClockSourceExt;
-use clock::Direct;
 use clock::Eui64;
-use clock::MediaClock;
-use clock::MediaClockExt;
-use clock::MediaClockId;
-use clock::MediaClockSource;
 use clock::Ntp;
 use clock::NtpServerAddr;
 use clock::PrivateSource;
@@ -14,7 +9,12 @@ use clock::Ptp;
 use clock::PtpDomain;
 use clock::PtpServer;
 use clock::PtpVersion;
-use clock::Rate;
+use mediarecord::Direct;
+use mediarecord::MediaClock;
+use mediarecord::MediaClockExt;
+use mediarecord::MediaClockId;
+use mediarecord::MediaClockSource;
+use mediarecord::Rate;
 use text::Place;
 
 pub(crate) struct Arguments {

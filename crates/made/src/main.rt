@@ -7,22 +7,24 @@ mod media;
 mod reference;
 
 use arguments::Arguments;
-use clock::MediaClockSource;
 use clock::ReferenceClock;
 use clock::TriedReferenceClock;
 use clock::Wrote;
+use libc::STDERR_FILENO;
 use libc::STDIN_FILENO;
 use libc::STDOUT_FILENO;
+use mediarecord::MediaClockSource;
 use text::Place;
 
 // How many frames are read.
 const MOST_FRAMES: u64 = 1000000;
 
-// What was said of a frame; nothing where none was left, or none that was whole.
-pub enum Said {
+// What was said of a frame; nothing where none was left, or none that was whole; or the input could not be read.
+pub enum FrameSaid {
     Nothing,
     Record,
     Refusal,
+    Broken,
 }
 
 fn say(word: &[u8]) {
@@ -33,45 +35,45 @@ fn say_number(n: u64) {
     io::print_decimal(STDOUT_FILENO, n);
 }
 
-fn say_refusal(number: u8) -> Said {
+fn say_refusal(number: u8) -> FrameSaid {
     say(b"no ");
     say_number(number as u64);
     say(b"\n");
-    Said::Refusal
+    FrameSaid::Refusal
 }
 
-fn say_text(text: &[u8]) -> Said {
+fn say_text(text: &[u8]) -> FrameSaid {
     say(b"ok ");
     say(text);
     say(b"\n");
-    Said::Record
+    FrameSaid::Record
 }
 
 // No writing is refused of a record whose places lie inside a value that is this short.
-fn say_written(room: &[u8], wrote: Wrote) -> Said {
+fn say_written(room: &[u8], wrote: Wrote) -> FrameSaid {
     match wrote {
         Wrote::Length(len) => say_text(text::part(room, Place { start: 0, len })),
         Wrote::Refused(_) => {
             say(b"no\n");
-            Said::Refusal
+            FrameSaid::Refusal
         }
     }
 }
 
-fn say_reference(clock: ReferenceClock, value: &[u8]) -> Said {
+fn say_reference(clock: ReferenceClock, value: &[u8]) -> FrameSaid {
     // long enough for any record over a value of 256 bytes
     let mut room = [0u8; 820];
     let wrote = writing::write_reference_clock(clock, value, &mut room);
     say_written(&room, wrote)
 }
 
-fn say_media(source: MediaClockSource, value: &[u8]) -> Said {
+fn say_media(source: MediaClockSource, value: &[u8]) -> FrameSaid {
     let mut room = [0u8; 820];
     let wrote = writing::write_media_clock_source(source, value, &mut room);
     say_written(&room, wrote)
 }
 
-fn say_tried(tried: TriedReferenceClock, value: &[u8]) -> Said {
+fn say_tried(tried: TriedReferenceClock, value: &[u8]) -> FrameSaid {
     match tried {
         TriedReferenceClock::Made(clock) => say_reference(clock, value),
         TriedReferenceClock::Refused(number) => say_refusal(number),
@@ -93,7 +95,7 @@ fn is_media(row: u8) -> bool {
     }
 }
 
-fn say_call(row: u8, a: Arguments, value: &[u8]) -> Said {
+fn say_call(row: u8, a: Arguments, value: &[u8]) -> FrameSaid {
     if is_tried(row) {
         return say_tried(reference::tried(row, a), value);
     }
@@ -103,9 +105,26 @@ fn say_call(row: u8, a: Arguments, value: &[u8]) -> Said {
     say_reference(reference::made(row, a), value)
 }
 
-fn cut() -> Said {
+// Whether the input stopped because a read failed: at its end one more read answers 0.
+fn is_input_broken() -> bool {
+    let mut one = [0u8; 1];
+    libc::read(STDIN_FILENO, &mut one) != 0
+}
+
+fn cut() -> FrameSaid {
     say(b"cut\n");
-    Said::Nothing
+    FrameSaid::Nothing
+}
+
+// A frame of which only so many bytes came.
+fn short_frame(got: usize) -> FrameSaid {
+    if is_input_broken() {
+        return FrameSaid::Broken;
+    }
+    if got == 0 {
+        return FrameSaid::Nothing;
+    }
+    cut()
 }
 
 // Whether so many bytes were read; the space must hold them.
@@ -116,7 +135,7 @@ fn is_read(space: &mut [u8], len: usize) -> bool {
     io::read_full(STDIN_FILENO, &mut space[..len]) == len
 }
 
-fn say_frame(head: &[u8; 39]) -> Said {
+fn say_frame(head: &[u8; 39]) -> FrameSaid {
     let mut space = [0u8; 256];
     let behind = arguments::two(head, 1) as usize;
     if behind < 36 {
@@ -127,19 +146,24 @@ fn say_frame(head: &[u8; 39]) -> Said {
         let value = text::part(&space, Place { start: 0, len });
         return say_call(head[0], Arguments::of(head), value);
     }
-    cut()
+    short_frame(39)
 }
 
-fn say_next() -> Said {
+fn say_next() -> FrameSaid {
     let mut head = [0u8; 39];
     let got = io::read_full(STDIN_FILENO, &mut head);
-    if got == 0 {
-        return Said::Nothing;
-    }
     if got < 39 {
-        return cut();
+        return short_frame(got);
     }
     say_frame(&head)
+}
+
+// What was not read whole has no sums, and says so.
+fn say_broken() {
+    io::write_all(
+        STDERR_FILENO,
+        b"the input could not be read: the sums are left out\n",
+    );
 }
 
 fn say_sums(frames: u64, records: u64, refusals: u64) {
@@ -157,9 +181,13 @@ fn main() {
     let mut records: u64 = 0;
     while frames < MOST_FRAMES {
         match say_next() {
-            Said::Nothing => break,
-            Said::Refusal => frames += 1,
-            Said::Record => {
+            FrameSaid::Nothing => break,
+            FrameSaid::Broken => {
+                say_broken();
+                return;
+            }
+            FrameSaid::Refusal => frames += 1,
+            FrameSaid::Record => {
                 frames += 1;
                 records += 1
             }

@@ -1,13 +1,13 @@
 // The functions of the records of mediaclk and of `Eui64`, by their rows. One of a smaller type is shown by the source that is made of its
 // answer.
 use crate::arguments::Arguments;
-use clock::Direct;
 use clock::Eui64;
-use clock::MediaClock;
-use clock::MediaClockExt;
-use clock::MediaClockId;
-use clock::MediaClockSource;
-use clock::Rate;
+use mediarecord::Direct;
+use mediarecord::MediaClock;
+use mediarecord::MediaClockExt;
+use mediarecord::MediaClockId;
+use mediarecord::MediaClockSource;
+use mediarecord::Rate;
 
 pub(crate) fn made(row: u8, a: Arguments) -> MediaClockSource {
     if row < 78 {

@@ -24,7 +24,7 @@ use Rattle.meaning.specs.Written.{wroteOf, roomAfter}
 use Rattle.meaning.specs.Demand1.{Answered, RefAnswered, MediaAnswered, RoomLeft, WritingNumbered, WritingLeaves}
 use Rattle.meaning.proofs.Told.{guarded-well, guarded-long}
 
--- reading: the guard, and a reader's answer for each answer of the paper
+-- reading: the guard, and a reader's answer for each answer of the rules
 module _ {A R : Type 0} (as-read : Answer A → R) (v : List ℕ) (x : Answer A) where
   abbrev refuses : Refusal → R
   refuses r = as-read (refused r)

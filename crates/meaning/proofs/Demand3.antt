@@ -8,8 +8,8 @@ use Rattle.text.proofs.Bools.{clash}
 use Rattle.clock.specs.declared.Refusal.{Refusal}
 use Rattle.clock.specs.declared.ReferenceClock.{ReferenceClock}
 use Rattle.clock.specs.declared.ReferenceClockRead.the-variants as ref
-use Rattle.clock.specs.declared.MediaClockSource.{MediaClockSource}
-use Rattle.clock.specs.declared.MediaClockSourceRead.the-variants as media
+use Rattle.mediarecord.specs.declared.MediaClockSource.{MediaClockSource}
+use Rattle.mediarecord.specs.declared.MediaClockSourceRead.the-variants as media
 use Rattle.meaning.specs.Answer.{Answer, accepted, refused, _>>=_}
 use Rattle.meaning.specs.Domain.{bare}
 use Rattle.meaning.specs.ReferenceClock.{referenceClockOf, asReferenceClockRead, readReferenceClock}

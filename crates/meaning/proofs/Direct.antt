@@ -15,11 +15,11 @@ use Rattle.text.proofs.Ascii.{ascii-cons, ascii-append}
 use Rattle.text.proofs.Bools.{by-bool, clash}
 use Rattle.text.proofs.Cuts.{before-le, before-length, before-append, starts-long}
 use Rattle.number.specs.Decimal.{decimal}
-use Rattle.clock.specs.Records.{rate, direct}
-use Rattle.clock.specs.declared.OptOffset.the-variants.{NoOffset, SomeOffset}
-use Rattle.clock.specs.declared.OptRate.{OptRate}
-use Rattle.clock.specs.declared.OptRate.the-variants.{NoRate, SomeRate}
-use Rattle.clock.specs.declared.Direct.{Direct}
+use Rattle.mediarecord.specs.Records.{rate, direct}
+use Rattle.mediarecord.specs.declared.OptOffset.the-variants.{NoOffset, SomeOffset}
+use Rattle.mediarecord.specs.declared.OptRate.{OptRate}
+use Rattle.mediarecord.specs.declared.OptRate.the-variants.{NoRate, SomeRate}
+use Rattle.mediarecord.specs.declared.Direct.{Direct}
 use Rattle.meaning.specs.Answer.{Answer, accepted, refuse, empty, numberAt}
 use Rattle.meaning.specs.MediaClock.{most32, denominatorOf, ratioOf, rateOf, offsetOf, directOf}
 use Rattle.meaning.specs.Meaning.{offsetMeans, rateMeans}

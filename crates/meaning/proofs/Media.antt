@@ -22,15 +22,16 @@ use Rattle.eui64.proofs.Written.{eui-back, eui-length, eui-ascii, eui-bound, eu
 use Rattle.utf8.specs.Utf8.{utf8Of}
 use Rattle.utf8.specs.declared.Utf8.the-variants.{Well}
 use Rattle.utf8.proofs.Text.{utf8-ascii, utf8-append, utf8-cut, utf8-all-ascii}
-use Rattle.clock.specs.Records.{eui64, mediaClockSource, mediaClockId, mediaClockExt}
+use Rattle.clock.specs.Records.{eui64}
+use Rattle.mediarecord.specs.Records.{mediaClockSource, mediaClockId, mediaClockExt}
 use Rattle.clock.specs.declared.Eui64.{Eui64}
-use Rattle.clock.specs.declared.OptId.the-variants.{NoId, SomeId}
-use Rattle.clock.specs.declared.Direct.{Direct}
-use Rattle.clock.specs.declared.MediaClockExt.{MediaClockExt}
-use Rattle.clock.specs.declared.MediaClockId.{MediaClockId}
-use Rattle.clock.specs.declared.MediaClock.{MediaClock}
-use Rattle.clock.specs.declared.MediaClock.the-variants as clock
-use Rattle.clock.specs.declared.MediaClockSource.{MediaClockSource}
+use Rattle.mediarecord.specs.declared.OptId.the-variants.{NoId, SomeId}
+use Rattle.mediarecord.specs.declared.Direct.{Direct}
+use Rattle.mediarecord.specs.declared.MediaClockExt.{MediaClockExt}
+use Rattle.mediarecord.specs.declared.MediaClockId.{MediaClockId}
+use Rattle.mediarecord.specs.declared.MediaClock.{MediaClock}
+use Rattle.mediarecord.specs.declared.MediaClock.the-variants as clock
+use Rattle.mediarecord.specs.declared.MediaClockSource.{MediaClockSource}
 use Rattle.meaning.specs.Answer.{Answer, accepted, _>>=_, empty, extensionOf}
 use Rattle.meaning.specs.MediaClock.{directOf, streamOr, streamOf, mediaClockOf, tagOf, idOf, taggedOf, sourceOf, mediaClockSourceOf}
 use Rattle.meaning.specs.Meaning.{Tag, plainTag, srcTag, mediaExt, SourceMeaning, idMeans, mediaMeans, mediaMeaning}

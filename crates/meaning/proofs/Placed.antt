@@ -27,14 +27,15 @@ use Rattle.utf8.specs.declared.Utf8.the-variants.{Well, Ill}
 use Rattle.utf8.proofs.Text.{utf8-ill}
 use Rattle.ipaddr.specs.Address.{ipAddress}
 use Rattle.clock.specs.Refusal.{refusal}
-use Rattle.clock.specs.Records.{clockSourceExt, mediaClockExt}
+use Rattle.clock.specs.Records.{clockSourceExt}
+use Rattle.mediarecord.specs.Records.{mediaClockExt}
 use Rattle.clock.specs.declared.Refusal.{Refusal}
 use Rattle.clock.specs.declared.OptPort.{OptPort}
 use Rattle.clock.specs.declared.OptValue.{OptValue}
 use Rattle.clock.specs.declared.ReferenceClock.{ReferenceClock}
 use Rattle.clock.specs.declared.ReferenceClockRead.the-variants as ref
-use Rattle.clock.specs.declared.MediaClockSource.{MediaClockSource}
-use Rattle.clock.specs.declared.MediaClockSourceRead.the-variants as media
+use Rattle.mediarecord.specs.declared.MediaClockSource.{MediaClockSource}
+use Rattle.mediarecord.specs.declared.MediaClockSourceRead.the-variants as media
 use Rattle.meaning.specs.Answer.{Answer, accepted, refused, refuse, _>>=_, empty, orRefuse, numberAt, extensionOf, mostBytes, ifWell, guarded}
 use Rattle.meaning.specs.Domain.{Spelling, bare, bareRead}
 use Rattle.meaning.specs.ReferenceClock.{portOf, addressOf, bracketOf, hostOf, ntpOf, versionOf, gmidOr, gmidOf, domainOf, serverOf, ptpOf, clockOf}
@@ -53,7 +54,7 @@ placed-refusal : {A : Type 0} {v : List ℕ} {x : Answer A} (r : Refusal) → Pl
 placed-refusal r (read a) h = clash (cc)
 placed-refusal r (not-read q p) h = let e : q ≡ r = cc in rw e at p
 
--- a number of the paper
+-- a number of the rules
 abbrev numbered : ℕ → Bool
 numbered k = leb 1 k && leb k 22
 

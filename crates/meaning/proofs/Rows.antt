@@ -30,7 +30,7 @@ use Rattle.meaning.specs.MediaClock.{sourceOf, mediaClockSourceOf, asMed
 use Rattle.meaning.specs.Meaning.{refMeaning, mediaMeaning}
 use Rattle.meaning.specs.Text.{refMeaningText, referenceClockText, sourceMeaningText, mediaClockSourceText}
 use Rattle.meaning.proofs.Told.{guarded-well}
-use Rattle.meaning.specs.Rows.{Given, ts-refclk, mediaclk, Said, refWritten, sourceWritten, said, edges, domains}
+use Rattle.meaning.specs.Rows.{Given, ts-refclk, mediaclk, ReadAndWritten, refWritten, sourceWritten, readAndWritten, edges, domains}
 
 abbrev pub short : List ℕ → Bool
 short s = leb (length s) 1024 && ascii s
@@ -39,9 +39,9 @@ abbrev pub plain : Given → Bool
 plain (ts-refclk v) = short v
 plain (mediaclk v) = short v
 
-abbrev saidPlain : Given → Said
-saidPlain (ts-refclk v) = refWritten v (asReferenceClockRead (clockOf bare v))
-saidPlain (mediaclk v) = sourceWritten v (asMediaClockSourceRead (sourceOf v))
+abbrev plainly : Given → ReadAndWritten
+plainly (ts-refclk v) = refWritten v (asReferenceClockRead (clockOf bare v))
+plainly (mediaclk v) = sourceWritten v (asMediaClockSourceRead (sourceOf v))
 
 module _ (v : List ℕ) (h : short v ≡ true) where
   fits : length v ≤ 1024
@@ -58,9 +58,9 @@ module _ (v : List ℕ) (h : short v ≡ true) where
   unfolding readMediaClockSource mediaClockSourceOf
   media-plain = rw (guarded-well v (sourceOf v) fits form)
 
-said-plain : (g : Given) → plain g ≡ true → said g ≡ saidPlain g
-said-plain (ts-refclk v) h = rw (ref-plain v h)
-said-plain (mediaclk v) h = rw (media-plain v h)
+plainly-is : (g : Given) → plain g ≡ true → readAndWritten g ≡ plainly g
+plainly-is (ts-refclk v) h = rw (ref-plain v h)
+plainly-is (mediaclk v) h = rw (media-plain v h)
 
 -- rows, and rows behind them
 pub each-append : {A B : Type 0} (f : A → B) (a b : List (Example A B)) → Each f a → Each f b → Each f (a ++ b)
@@ -81,15 +81,15 @@ module _ {A B : Type 0} (f g : A → B) (ok : A → Bool) (agree : (a : A) → o
       go (r ∷ rows) h =
           rw (agree (r .given) (and-left (ok (r .given)) (allOk rows) h), go rows (and-right (ok (r .given)) (allOk rows) h))
 
-pub edges-hold : Each said edges
+pub edges-hold : Each readAndWritten edges
 unfolding clockOf ntpOf hostOf bracketOf addressOf portOf ptpOf versionOf serverOf gmidOf domainOf bareRead extensionOf sourceOf taggedOf idOf tagOf
     mediaClockOf streamOf directOf offsetOf rateOf ratioOf denominatorOf referenceClockText refMeaningText refMeaning bareText mediaClockSourceText
     sourceMeaningText mediaMeaning before beforePair throughLast same endsIn bytesAt numberOf digitsOf allDigits valueFrom decimal digitsIn hexDigit
     hexCapital eui64Of segmentsOf segmentOf highDigit cutAtEach eui64Text segmentsText ipAddress ipv6address ipv4address ls32 doubleColon h16colon h16
     decOctet hexdig nothing range _or_ _then_ times upto
-edges-hold = each-where said saidPlain plain said-plain edges refl refl
+edges-hold = each-where readAndWritten plainly plain plainly-is edges refl refl
 
-pub domains-hold : Each said domains
+pub domains-hold : Each readAndWritten domains
 unfolding clockOf ptpOf versionOf serverOf gmidOf domainOf bareRead referenceClockText refMeaningText refMeaning bareText before same bytesAt numberOf
     digitsOf allDigits valueFrom decimal digitsIn hexDigit hexCapital eui64Of segmentsOf segmentOf highDigit cutAtEach eui64Text segmentsText
-domains-hold = each-where said saidPlain plain said-plain domains refl refl
+domains-hold = each-where readAndWritten plainly plain plainly-is domains refl refl

@@ -23,7 +23,7 @@ pub data Answer (A : Type 0) : Type 0 where
   refused : Refusal → Answer A
 
 module _ {A : Type 0} where
-  -- refused with a number of the paper, at the n bytes from `at` on
+  -- refused with a number of the rules, at the n bytes from `at` on
   abbrev pub refuse : ℕ → ℕ → ℕ → Answer A
   refuse k at n = refused (refusal k at n)
 

@@ -11,7 +11,7 @@ use Rattle.abnf.specs.Rule.{longest}
 use Rattle.utf8.specs.Utf8.{utf8Octets}
 use Rattle.clock.specs.declared.Refusal.{Refusal}
 use Rattle.clock.specs.declared.ReferenceClockRead.the-variants as ref
-use Rattle.clock.specs.declared.MediaClockSourceRead.the-variants as media
+use Rattle.mediarecord.specs.declared.MediaClockSourceRead.the-variants as media
 use Rattle.clock.specs.declared.Wrote.{Wrote}
 use Rattle.clock.specs.declared.Wrote.the-variants.{Length}
 use Rattle.meaning.specs.Domain.{bare}

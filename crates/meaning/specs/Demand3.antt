@@ -11,8 +11,8 @@ use lib.ListN.{length}
 use Rattle.clock.specs.Refusal.{refusal}
 use Rattle.clock.specs.declared.ReferenceClock.{ReferenceClock}
 use Rattle.clock.specs.declared.ReferenceClockRead.the-variants as ref
-use Rattle.clock.specs.declared.MediaClockSource.{MediaClockSource}
-use Rattle.clock.specs.declared.MediaClockSourceRead.the-variants as media
+use Rattle.mediarecord.specs.declared.MediaClockSource.{MediaClockSource}
+use Rattle.mediarecord.specs.declared.MediaClockSourceRead.the-variants as media
 use Rattle.clock.specs.declared.Wrote.the-variants.{Length}
 use Rattle.meaning.specs.ReferenceClock.{readReferenceClock}
 use Rattle.meaning.specs.MediaClock.{readMediaClockSource}

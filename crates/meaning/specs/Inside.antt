@@ -9,8 +9,8 @@ use Rattle.clock.specs.declared.OptDomain.{OptDomain}
 use Rattle.clock.specs.declared.OptDomain.the-variants.{NoDomain, SomeDomain}
 use Rattle.clock.specs.declared.OptValue.{OptValue}
 use Rattle.clock.specs.declared.OptValue.the-variants.{NoValue, SomeValue}
-use Rattle.clock.specs.declared.OptId.{OptId}
-use Rattle.clock.specs.declared.OptId.the-variants.{NoId, SomeId}
+use Rattle.mediarecord.specs.declared.OptId.{OptId}
+use Rattle.mediarecord.specs.declared.OptId.the-variants.{NoId, SomeId}
 use Rattle.clock.specs.declared.NtpServerAddr.{NtpServerAddr}
 use Rattle.clock.specs.declared.NtpServerAddr.the-variants as server
 use Rattle.clock.specs.declared.PtpVersion.{PtpVersion}
@@ -21,9 +21,9 @@ use Rattle.clock.specs.declared.PtpServer.{PtpServer}
 use Rattle.clock.specs.declared.PtpServer.the-variants as source
 use Rattle.clock.specs.declared.ReferenceClock.{ReferenceClock}
 use Rattle.clock.specs.declared.ReferenceClock.the-variants as clock
-use Rattle.clock.specs.declared.MediaClock.{MediaClock}
-use Rattle.clock.specs.declared.MediaClock.the-variants as media
-use Rattle.clock.specs.declared.MediaClockSource.{MediaClockSource}
+use Rattle.mediarecord.specs.declared.MediaClock.{MediaClock}
+use Rattle.mediarecord.specs.declared.MediaClock.the-variants as media
+use Rattle.mediarecord.specs.declared.MediaClockSource.{MediaClockSource}
 
 module _ (v : List ℕ) where
   abbrev pub inside : Place → Bool

@@ -1,4 +1,4 @@
--- The paper: what each value reads as, what a record means, and the text of a meaning.
+-- The rules: what each value reads as, what a record means, and the text of a meaning.
 pub mod Answer
 pub mod Meaning
 pub mod Domain

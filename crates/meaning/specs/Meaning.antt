@@ -11,12 +11,12 @@ use Rattle.clock.specs.declared.OptDomain.{OptDomain}
 use Rattle.clock.specs.declared.OptDomain.the-variants.{NoDomain, SomeDomain}
 use Rattle.clock.specs.declared.OptValue.{OptValue}
 use Rattle.clock.specs.declared.OptValue.the-variants.{NoValue, SomeValue}
-use Rattle.clock.specs.declared.OptId.{OptId}
-use Rattle.clock.specs.declared.OptId.the-variants.{NoId, SomeId}
-use Rattle.clock.specs.declared.OptOffset.{OptOffset}
-use Rattle.clock.specs.declared.OptOffset.the-variants.{NoOffset, SomeOffset}
-use Rattle.clock.specs.declared.OptRate.{OptRate}
-use Rattle.clock.specs.declared.OptRate.the-variants.{NoRate, SomeRate}
+use Rattle.mediarecord.specs.declared.OptId.{OptId}
+use Rattle.mediarecord.specs.declared.OptId.the-variants.{NoId, SomeId}
+use Rattle.mediarecord.specs.declared.OptOffset.{OptOffset}
+use Rattle.mediarecord.specs.declared.OptOffset.the-variants.{NoOffset, SomeOffset}
+use Rattle.mediarecord.specs.declared.OptRate.{OptRate}
+use Rattle.mediarecord.specs.declared.OptRate.the-variants.{NoRate, SomeRate}
 use Rattle.clock.specs.declared.NtpServerAddr.{NtpServerAddr}
 use Rattle.clock.specs.declared.NtpServerAddr.the-variants as server
 use Rattle.clock.specs.declared.PtpVersion.{PtpVersion}
@@ -29,9 +29,9 @@ use Rattle.clock.specs.declared.PrivateSource.{PrivateSource}
 use Rattle.clock.specs.declared.PrivateSource.the-variants as private
 use Rattle.clock.specs.declared.ReferenceClock.{ReferenceClock}
 use Rattle.clock.specs.declared.ReferenceClock.the-variants as clock
-use Rattle.clock.specs.declared.MediaClock.{MediaClock}
-use Rattle.clock.specs.declared.MediaClock.the-variants as media
-use Rattle.clock.specs.declared.MediaClockSource.{MediaClockSource}
+use Rattle.mediarecord.specs.declared.MediaClock.{MediaClock}
+use Rattle.mediarecord.specs.declared.MediaClock.the-variants as media
+use Rattle.mediarecord.specs.declared.MediaClockSource.{MediaClockSource}
 
 -- ts-refclk
 pub data Version : Type 0 where

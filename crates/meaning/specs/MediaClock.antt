@@ -12,20 +12,21 @@ use Rattle.eui64.specs.declared.Eui64Read.{Eui64Read}
 use Rattle.eui64.specs.declared.Eui64Read.the-variants as stream
 use Rattle.eui64.specs.declared.BrokenRule.{BrokenRule}
 use Rattle.eui64.specs.declared.BrokenRule.the-variants.{Length, SegmentLength, SegmentDigits}
-use Rattle.clock.specs.Records.{eui64, mediaClockSource, mediaClockId, rate, direct, mediaClockExt}
+use Rattle.clock.specs.Records.{eui64}
+use Rattle.mediarecord.specs.Records.{mediaClockSource, mediaClockId, rate, direct, mediaClockExt}
 use Rattle.clock.specs.declared.Eui64.{Eui64}
-use Rattle.clock.specs.declared.OptId.{OptId}
-use Rattle.clock.specs.declared.OptId.the-variants.{NoId, SomeId}
-use Rattle.clock.specs.declared.OptOffset.the-variants.{NoOffset, SomeOffset}
-use Rattle.clock.specs.declared.OptRate.{OptRate}
-use Rattle.clock.specs.declared.OptRate.the-variants.{NoRate, SomeRate}
-use Rattle.clock.specs.declared.Direct.{Direct}
-use Rattle.clock.specs.declared.MediaClockId.{MediaClockId}
-use Rattle.clock.specs.declared.MediaClock.{MediaClock}
-use Rattle.clock.specs.declared.MediaClock.the-variants as clock
-use Rattle.clock.specs.declared.MediaClockSource.{MediaClockSource}
-use Rattle.clock.specs.declared.MediaClockSourceRead.{MediaClockSourceRead}
-use Rattle.clock.specs.declared.MediaClockSourceRead.the-variants as read
+use Rattle.mediarecord.specs.declared.OptId.{OptId}
+use Rattle.mediarecord.specs.declared.OptId.the-variants.{NoId, SomeId}
+use Rattle.mediarecord.specs.declared.OptOffset.the-variants.{NoOffset, SomeOffset}
+use Rattle.mediarecord.specs.declared.OptRate.{OptRate}
+use Rattle.mediarecord.specs.declared.OptRate.the-variants.{NoRate, SomeRate}
+use Rattle.mediarecord.specs.declared.Direct.{Direct}
+use Rattle.mediarecord.specs.declared.MediaClockId.{MediaClockId}
+use Rattle.mediarecord.specs.declared.MediaClock.{MediaClock}
+use Rattle.mediarecord.specs.declared.MediaClock.the-variants as clock
+use Rattle.mediarecord.specs.declared.MediaClockSource.{MediaClockSource}
+use Rattle.mediarecord.specs.declared.MediaClockSourceRead.{MediaClockSourceRead}
+use Rattle.mediarecord.specs.declared.MediaClockSourceRead.the-variants as read
 use Rattle.meaning.specs.Answer.{Answer, accepted, refused, refuse, _>>=_, empty, numberAt, extensionOf, guarded}
 
 -- the largest number of 32 bits
@@ -68,7 +69,7 @@ directOf at s =
     (cond (starts (word " ") s) (rateOf (at + 1) (drop 1 s) >>= λ r. accepted (direct NoOffset r))
     (refuse 15 at (length s))))
 
--- the paper's number for each rule that an EUI-64 can break
+-- the number of the rules for each rule that an EUI-64 can break
 abbrev pub brokenNumber : BrokenRule → ℕ
 brokenNumber Length = 19
 brokenNumber SegmentLength = 20
@@ -82,13 +83,17 @@ streamOr at (stream.Refused fault) = refuse (brokenNumber (fault .rule)) (at + f
 unfoldable pub streamOf : ℕ → List ℕ → Answer Eui64
 streamOf at s = streamOr at (eui64Of s)
 
+-- an extension as a clock
+abbrev pub extensionMediaOf : ℕ → List ℕ → Answer MediaClock
+extensionMediaOf at s = extensionOf mediaClockExt 22 at s >>= λ e. accepted (clock.Ext e)
+
 -- "sender"; anything that begins with "direct"; "IEEE1722="; else an extension
 unfoldable pub mediaClockOf : ℕ → List ℕ → Answer MediaClock
 mediaClockOf at s =
     cond (same s (word "sender")) (accepted clock.Sender)
     (cond (starts (word "direct") s) (directOf (at + 6) (drop 6 s) >>= λ d. accepted (clock.Direct d))
     (cond (starts (word "IEEE1722=") s) (streamOf (at + 9) (drop 9 s) >>= λ g. accepted (clock.Ieee1722StreamId g))
-    (extensionOf mediaClockExt 22 at s >>= λ e. accepted (clock.Ext e))))
+    (extensionMediaOf at s)))
 
 -- the tag must not be empty
 unfoldable pub tagOf : Bool → ℕ → List ℕ → Answer MediaClockId
@@ -119,7 +124,7 @@ sourceOf s =
 unfoldable pub mediaClockSourceOf : List ℕ → Answer MediaClockSource
 mediaClockSourceOf s = guarded s (sourceOf s)
 
--- the reader's answer for what the paper answers, case by case
+-- the reader's answer for what the rules answer, case by case
 abbrev pub asMediaClockSourceRead : Answer MediaClockSource → MediaClockSourceRead
 asMediaClockSourceRead (accepted m) = read.Accepted m
 asMediaClockSourceRead (refused r) = read.Refused r

@@ -130,7 +130,7 @@ module _ (spelling : Spelling) where
   unfoldable pub referenceClockOf : List ℕ → Answer ReferenceClock
   referenceClockOf s = guarded s (clockOf s)
 
--- the reader's answer for what the paper answers, case by case
+-- the reader's answer for what the rules answer, case by case
 abbrev pub asReferenceClockRead : Answer ReferenceClock → ReferenceClockRead
 asReferenceClockRead (accepted c) = read.Accepted c
 asReferenceClockRead (refused r) = read.Refused r

@@ -10,8 +10,8 @@ use Rattle.clock.specs.Refusal.{refusal}
 use Rattle.clock.specs.declared.Refusal.{Refusal}
 use Rattle.clock.specs.declared.ReferenceClockRead.{ReferenceClockRead}
 use Rattle.clock.specs.declared.ReferenceClockRead.the-variants as ref
-use Rattle.clock.specs.declared.MediaClockSourceRead.{MediaClockSourceRead}
-use Rattle.clock.specs.declared.MediaClockSourceRead.the-variants as src
+use Rattle.mediarecord.specs.declared.MediaClockSourceRead.{MediaClockSourceRead}
+use Rattle.mediarecord.specs.declared.MediaClockSourceRead.the-variants as src
 use Rattle.meaning.specs.ReferenceClock.{readReferenceClock}
 use Rattle.meaning.specs.MediaClock.{readMediaClockSource}
 use Rattle.meaning.specs.Rows.{Given, ts-refclk, mediaclk}

@@ -11,9 +11,12 @@ use Rattle.number.specs.Decimal.{decimal}
 use Rattle.eui64.specs.Eui64.{eui64Text}
 use Rattle.ipaddr.specs.Address.{ipAddress}
 use Rattle.clock.specs.declared.ReferenceClock.{ReferenceClock}
-use Rattle.clock.specs.declared.MediaClockSource.{MediaClockSource}
+use Rattle.mediarecord.specs.declared.MediaClockSource.{MediaClockSource}
 use Rattle.meaning.specs.Domain.{Spelling, bare}
-use Rattle.meaning.specs.Meaning.{Version, ieee1588-2002, ieee1588-2008, ieee802-1as-2011, ownVersion, Domain, Server, gmid, traceable, RefMeaning, ntpTraceable, ntpHost, ptp, gps, gal, glonass, local, privateStandard, privateTraceable, refExt, refMeaning, Ratio, ratio, Tag, plainTag, srcTag, MediaMeaning, sender, direct, stream, mediaExt, SourceMeaning, mediaSource, mediaMeaning}
+use Rattle.meaning.specs.Meaning.{Version, ieee1588-2002, ieee1588-2008, ieee802-1as-2011, ownVersion, Domain, Server, gmid, traceable}
+use Rattle.meaning.specs.Meaning.{RefMeaning, ntpTraceable, ntpHost, ptp, gps, gal, glonass, local, privateStandard, privateTraceable, refExt}
+use Rattle.meaning.specs.Meaning.{refMeaning, Ratio, ratio, Tag, plainTag, srcTag, MediaMeaning, sender, direct, stream, mediaExt}
+use Rattle.meaning.specs.Meaning.{SourceMeaning, mediaSource, mediaMeaning}
 
 -- "=" and a value, where there is one
 abbrev pub valueText : Option (List ℕ) → List ℕ

@@ -11,12 +11,12 @@ use Rattle.clock.specs.declared.Wrote.the-variants as wrote
 use Rattle.clock.specs.declared.WriteRefusal.{WriteRefusal}
 use Rattle.clock.specs.declared.WriteRefusal.the-variants as refused
 use Rattle.clock.specs.declared.ReferenceClock.{ReferenceClock}
-use Rattle.clock.specs.declared.MediaClockSource.{MediaClockSource}
+use Rattle.mediarecord.specs.declared.MediaClockSource.{MediaClockSource}
 use Rattle.meaning.specs.Answer.{mostBytes}
 use Rattle.meaning.specs.Text.{referenceClockText, mediaClockSourceText}
 use Rattle.meaning.specs.Inside.{referenceClockInside, mediaClockSourceInside}
 
--- the paper's number for each refusal
+-- the number of the rules for each refusal
 abbrev pub refusalNumber : WriteRefusal → ℕ
 refusalNumber (refused.Value r) = r .number
 refusalNumber refused.Outside = 23

@@ -1,4 +1,4 @@
--- One law for each way out of the readers of an id, a stream, an extension and the whole, its premises as the code's places give them.
+-- One law for each way out of the readers of an id, a stream and the whole, its premises as the code's places give them.
 -- Assumes nothing.
 use Prim.Native.Nat.{ℕ, _+_, _-_, _≤_, _<_}
 use mathlib.Core.Path.{_≡_, sym, ap, _∙_}
@@ -9,49 +9,47 @@ use lib.Dec.{ltb}
 use lib.ListN.{length, take, drop, length-take, length-drop}
 use lib.Seq.{drop-drop}
 use mir.Val.{Fits}
-use mir.Syntax.{w64}
-use borrow.Author.Tests.{eq-eqb, ne-eqb, lt-ltb, le-ltb}
+use mir.Syntax.{w32, w64}
+use borrow.Author.Tests.{lt-ltb, le-ltb}
 use Rattle.text.specs.Find.{before}
-use Rattle.text.specs.Place.{place}
 use Rattle.text.specs.Word.{word, same, starts}
 use Rattle.text.proofs.Cuts.{before-le, cut-length, starts-long}
 use Rattle.text.proofs.Left.{rest, rest-is}
-use Rattle.eui64.specs.Eui64.{eui64Of}
-use Rattle.eui64.specs.declared.Fault.{Fault}
-use Rattle.eui64.specs.declared.Eui64Read.{Eui64Read}
-use Rattle.eui64.specs.declared.Eui64Read.the-variants as eui
-use Rattle.eui64.proofs.Written.{eui-fault}
-use Rattle.utf8.specs.Utf8.{utf8Of}
-use Rattle.utf8.specs.declared.Utf8.{Utf8}
-use Rattle.utf8.specs.declared.Utf8.the-variants.{Well, Ill}
 use Rattle.clock.specs.Refusal.{refusal}
-use Rattle.clock.specs.Records.{eui64, mediaClockSource, mediaClockId, mediaClockExt}
+use Rattle.mediarecord.specs.Records.{mediaClockSource, mediaClockExt}
 use Rattle.clock.specs.declared.Refusal.{Refusal}
 use Rattle.clock.specs.declared.Eui64.{Eui64}
-use Rattle.clock.specs.declared.Direct.{Direct}
-use Rattle.clock.specs.declared.OptId.{OptId}
-use Rattle.clock.specs.declared.OptId.the-variants.{NoId, SomeId}
-use Rattle.clock.specs.declared.OptValue.the-variants.{NoValue, SomeValue}
-use Rattle.clock.specs.declared.MediaClockId.{MediaClockId}
-use Rattle.clock.specs.declared.MediaClockExt.{MediaClockExt}
-use Rattle.clock.specs.declared.MediaClock.{MediaClock}
-use Rattle.clock.specs.declared.MediaClock.the-variants as clock
-use Rattle.clock.specs.declared.MediaClockSourceRead.{MediaClockSourceRead}
-use Rattle.clock.specs.declared.MediaClockSourceRead.the-variants as source
+use Rattle.mediarecord.specs.declared.Direct.{Direct}
+use Rattle.mediarecord.specs.declared.OptId.{OptId}
+use Rattle.mediarecord.specs.declared.OptId.the-variants.{NoId, SomeId}
+use Rattle.mediarecord.specs.declared.MediaClockId.{MediaClockId}
+use Rattle.mediarecord.specs.declared.MediaClock.{MediaClock}
+use Rattle.mediarecord.specs.declared.MediaClock.the-variants as clock
+use Rattle.mediarecord.specs.declared.MediaClockSourceRead.{MediaClockSourceRead}
+use Rattle.mediarecord.specs.declared.MediaClockSourceRead.the-variants as source
 use Rattle.meaning.specs.Answer.{Answer, accepted, refused, extensionOf, guarded}
-use Rattle.meaning.specs.MediaClock.{brokenNumber, directOf, streamOf, mediaClockOf, tagOf, idOf, taggedOf, withClock, sourceOf}
+use Rattle.meaning.specs.MediaClock.{directOf, streamOf, extensionMediaOf, mediaClockOf, idOf, taggedOf, withClock, sourceOf}
 use Rattle.meaning.specs.MediaClock.{mediaClockSourceOf, asMediaClockSourceRead, readMediaClockSource}
+use Rattle.guard.specs.AsAnswer.{checkedAnswer}
+use Rattle.guard.specs.declared.Checked.{Checked}
+use Rattle.guard.specs.declared.Checked.the-variants as checked
+use Rattle.guard.proofs.Laws.{guard-refused, guard-passed, guard-short}
+use Rattle.extension.specs.AsAnswer.{extensionOfParts, extensionAnswer}
+use Rattle.extension.specs.declared.Extension.{Extension}
+use Rattle.extension.specs.declared.ExtensionRead.{ExtensionRead}
+use Rattle.extension.specs.declared.ExtensionRead.the-variants as extension
+use Rattle.extension.proofs.Laws.{extension-made, extension-refused}
+use Rattle.clockid.specs.AsAnswer.{idAnswer}
+use Rattle.stream.specs.AsAnswer.{streamAnswer}
 use Rattle.direct.proofs.Laws.{rest-end}
-use Rattle.direct.specs.Answers.{directAnswer}
+use Rattle.direct.specs.AsAnswer.{directAnswer}
 use Rattle.direct.specs.declared.DirectRead.{DirectRead}
 use Rattle.direct.specs.declared.DirectRead.the-variants as direct
-use Rattle.mediaclk.specs.Answers.{idAnswer, streamAnswer, extensionAnswer, mediaClockAnswer, Fronts}
-use Rattle.mediaclk.specs.declared.id.IdRead.{IdRead}
-use Rattle.mediaclk.specs.declared.id.IdRead.the-variants as id
-use Rattle.mediaclk.specs.declared.stream.StreamRead.{StreamRead}
-use Rattle.mediaclk.specs.declared.stream.StreamRead.the-variants as stream
-use Rattle.mediaclk.specs.declared.extension.ExtensionRead.{ExtensionRead}
-use Rattle.mediaclk.specs.declared.extension.ExtensionRead.the-variants as extension
+use Rattle.mediaclk.specs.Private.AsAnswer.{mediaClockAnswer, Fronts}
+use Rattle.clockid.specs.declared.IdRead.{IdRead}
+use Rattle.clockid.specs.declared.IdRead.the-variants as id
+use Rattle.stream.specs.declared.StreamRead.{StreamRead}
+use Rattle.stream.specs.declared.StreamRead.the-variants as stream
 use Rattle.mediaclk.specs.declared.MediaClockRead.{MediaClockRead}
 use Rattle.mediaclk.specs.declared.MediaClockRead.the-variants as media
 use Rattle.mediaclk.specs.declared.FrontRead.{FrontRead}
@@ -60,59 +58,17 @@ use Rattle.mediaclk.specs.declared.FrontRead.the-variants as front
 pub room-behind : (at k : ℕ) (s : List ℕ) → at + length s ≤ 1024 → k ≤ length s → at + k + length (rest k s) ≤ 1024
 room-behind at k s h l = omega (arith, rest-end at k s l)
 
--- `read_tag` and `read_id`
-module _ (src : Bool) (at : ℕ) (s : List ℕ) where
-  pub tag-empty : (f : Refusal) → f ≡ refusal 13 at 0 → length s ≡ 0 → refused f ≡ tagOf src at s
-  unfolding tagOf
-  tag-empty f ef h = simp (eq-eqb _ _ h, ef)
-
-  pub tag-is : (length s ≡ 0 → ⊥) → accepted (mediaClockId src (place at (length s))) ≡ tagOf src at s
-  unfolding tagOf
-  tag-is h = simp (ne-eqb _ _ h)
-
-module _ (s : List ℕ) (t : Bool) (et : t ≡ starts (word "src:") s) where
-  pub src-long : t ≡ true → 4 ≤ length s
-  src-long e = starts-long (word "src:") s (sym et ∙ e)
-
-  module _ (at : ℕ) (a : Answer MediaClockId) where
-    pub id-src : t ≡ true → a ≡ tagOf true (at + 4) (rest 4 s) → a ≡ idOf at s
-    unfolding idOf
-    id-src e ea = simp (← et, e, rw rest-is at ea)
-
-    pub id-plain : t ≡ false → a ≡ tagOf false at s → a ≡ idOf at s
-    unfolding idOf
-    id-plain e ea = simp (← et, e, ea)
-
--- `read_stream`
-module _ (at : ℕ) (s : List ℕ) (x : Eui64Read) (ex : x ≡ eui64Of s) where
-  pub stream-is : (n : ℕ) → x ≡ eui.Id n → accepted (eui64 n) ≡ streamOf at s
-  unfolding streamOf
-  stream-is n e = simp (← ex, e)
-
-  module _ (fault : Fault) (e : x ≡ eui.Refused fault) where
-    pub stream-start : at + length s ≤ 1024 → Fits w64 (at + fault .place .start)
-    stream-start h = record { fits = omega (arith, eui-fault fault s (sym e ∙ ex)) }
-
-    pub stream-fault : (k : ℕ) → k ≡ brokenNumber (fault .rule) → (f : Refusal)
-        → f ≡ refusal k (at + fault .place .start) (fault .place .len) → refused f ≡ streamOf at s
-    unfolding streamOf
-    stream-fault k ek f ef = simp (← ex, e, ef, ek)
-
 -- `read_extension`
-module _ (at : ℕ) (s : List ℕ) (i : ℕ) (ei : i ≡ before 61 s) where
-  pub extension-no-name : (f : Refusal) → f ≡ refusal 22 at 0 → i ≡ 0 → refused f ≡ extensionOf mediaClockExt 22 at s
-  unfolding extensionOf
-  extension-no-name f ef h = simp (← ei, eq-eqb _ _ h, ef)
+module _ (at : ℕ) (s : List ℕ) where
+  pub extension-start : at + length s ≤ 1024 → Fits w32 at
+  extension-start h = record { fits = omega arith }
 
-  module _ (h : i ≡ 0 → ⊥) where
-    pub extension-value : i < length s
-        → accepted (mediaClockExt (place at i) (SomeValue (place (at + (i + 1)) (length s - (i + 1))))) ≡ extensionOf mediaClockExt 22 at s
-    unfolding extensionOf
-    extension-value k = simp (← ei, ne-eqb _ _ h, lt-ltb _ _ k)
+  module _ (x : ExtensionRead) (ex : extensionAnswer x ≡ extensionOf extensionOfParts 22 at s) where
+    pub extension-clock : (e : Extension) → x ≡ extension.Accepted e → accepted (clock.Ext (mediaClockExt (e .name) (e .value))) ≡ extensionMediaOf at s
+    extension-clock e q = simp (extension-made mediaClockExt 22 at s x ex e q)
 
-    pub extension-name : length s ≤ i → accepted (mediaClockExt (place at i) NoValue) ≡ extensionOf mediaClockExt 22 at s
-    unfolding extensionOf
-    extension-name k = simp (← ei, ne-eqb _ _ h, le-ltb _ _ k)
+    pub extension-no-clock : (r : Refusal) → x ≡ extension.Refused r → refused r ≡ extensionMediaOf at s
+    extension-no-clock r q = simp (extension-refused mediaClockExt 22 at s x ex r q)
 
 -- `read_stream_or_extension` and `read_media_clock`
 module _ (s : List ℕ) (t : Bool) (et : t ≡ starts (word "direct") s) where
@@ -139,14 +95,9 @@ module _ (at : ℕ) (s : List ℕ) where
       unfolding mediaClockOf
       clock-no-stream r f = simp (e, d, ← ew, g, ← (rw rest-is at ex), f)
 
-    module _ (g : w ≡ false) (x : ExtensionRead) (ex : extensionAnswer x ≡ extensionOf mediaClockExt 22 at s) where
-      pub clock-extension : (c : MediaClockExt) → x ≡ extension.Accepted c → accepted (clock.Ext c) ≡ mediaClockOf at s
-      unfolding mediaClockOf
-      clock-extension c f = simp (e, d, ← ew, g, ← ex, f)
-
-      pub clock-no-extension : (r : Refusal) → x ≡ extension.Refused r → refused r ≡ mediaClockOf at s
-      unfolding mediaClockOf
-      clock-no-extension r f = simp (e, d, ← ew, g, ← ex, f)
+    pub clock-extension : w ≡ false → (a : Answer MediaClock) → a ≡ extensionMediaOf at s → a ≡ mediaClockOf at s
+    unfolding mediaClockOf
+    clock-extension g a ea = simp (e, d, ← ew, g) ea
 
   module _ (t : Bool) (et : t ≡ same s (word "sender")) where
     pub clock-sender : t ≡ true → accepted clock.Sender ≡ mediaClockOf at s
@@ -240,34 +191,24 @@ module _ (s : List ℕ) (x : FrontRead) (p : Fronts s x) where
   source-refused r e = ap asMediaClockSourceRead (simp e at (p .source))
 
 -- `read_media_clock_source`
-module _ (s : List ℕ) where
-  pub whole-long : (f : Refusal) → f ≡ refusal 1 1024 (length s - 1024) → 1024 < length s → source.Refused f ≡ readMediaClockSource s
-  unfolding readMediaClockSource mediaClockSourceOf guarded
-  whole-long f ef h = simp (lt-ltb _ _ h, ef)
+module _ (s : List ℕ) (x : Checked) (ex : checkedAnswer s x ≡ guarded s (accepted s)) where
+  pub whole-refused : (r : Refusal) → x ≡ checked.Refused r → source.Refused r ≡ readMediaClockSource s
+  unfolding readMediaClockSource mediaClockSourceOf
+  whole-refused r e = guard-refused s x ex asMediaClockSourceRead (sourceOf s) r e
 
-  module _ (h : length s ≤ 1024) (u : Utf8) (eu : u ≡ utf8Of s) where
-    pub whole-ill : (k : ℕ) → u ≡ Ill k → (f : Refusal) → f ≡ refusal 2 k 1 → source.Refused f ≡ readMediaClockSource s
-    unfolding readMediaClockSource mediaClockSourceOf guarded
-    whole-ill k e f ef = simp (le-ltb _ _ h, ← eu, e, ef)
+  pub whole-short : x ≡ checked.Passed → length s ≤ 1024
+  whole-short e = guard-short s x ex e
 
-    pub whole-well : u ≡ Well → (r : MediaClockSourceRead) → r ≡ asMediaClockSourceRead (sourceOf s) → r ≡ readMediaClockSource s
-    unfolding readMediaClockSource mediaClockSourceOf guarded
-    whole-well e r er = simp (le-ltb _ _ h, ← eu, e, er)
+  pub whole-passed : x ≡ checked.Passed → (r : MediaClockSourceRead) → r ≡ asMediaClockSourceRead (sourceOf s) → r ≡ readMediaClockSource s
+  unfolding readMediaClockSource mediaClockSourceOf
+  whole-passed e r er = guard-passed s x ex asMediaClockSourceRead (sourceOf s) e r er
 
 pub ruleset laws = (
   cut-length,
   room-behind,
-  tag-empty,
-  tag-is,
-  src-long,
-  id-src,
-  id-plain,
-  stream-is,
-  stream-start,
-  stream-fault,
-  extension-no-name,
-  extension-value,
-  extension-name,
+  extension-start,
+  extension-clock,
+  extension-no-clock,
   direct-long,
   not-direct,
   not-sender,
@@ -278,7 +219,6 @@ pub ruleset laws = (
   clock-stream,
   clock-no-stream,
   clock-extension,
-  clock-no-extension,
   behind-clock,
   behind-refused,
   id-long,
@@ -293,7 +233,7 @@ pub ruleset laws = (
   clock-room,
   source-clock,
   source-refused,
-  whole-long,
-  whole-ill,
-  whole-well,
+  whole-refused,
+  whole-short,
+  whole-passed,
 )

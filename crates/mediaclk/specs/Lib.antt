@@ -1,2 +1,2 @@
--- The paper's answer for every case of the private readers' answers.
-pub mod Answers
+-- What only private functions and proofs need.
+pub mod Private

@@ -1,24 +1,22 @@
 // What a mediaclk value reads as: the reading rules in their order.
-mod extension;
-mod id;
-mod stream;
-
 ghost use mathlib.Core.Path.{_≡_};
 ghost use mathlib.Core.Bool.{true, false};
 ghost use Prim.Native.Nat.{_+_, _≤_};
 ghost use lib.ListN.{length};
 ghost use Rattle.text.specs.Word.{word, same, starts};
-ghost use Rattle.meaning.specs.MediaClock.{mediaClockOf, withClock, sourceOf, asMediaClockSourceRead, readMediaClockSource};
-ghost use Rattle.mediaclk.specs.Answers.{mediaClockAnswer, Fronts};
-use crate::extension::ExtensionRead;
-use crate::id::IdRead;
-use crate::stream::StreamRead;
-use clock::MediaClock;
-use clock::MediaClockSource;
-use clock::MediaClockSourceRead;
-use clock::OptId;
+ghost use Rattle.meaning.specs.MediaClock.{extensionMediaOf, mediaClockOf, withClock, sourceOf, asMediaClockSourceRead, readMediaClockSource};
+ghost use Rattle.mediaclk.specs.Private.AsAnswer.{mediaClockAnswer, Fronts};
 use clock::Refusal;
+use clockid::IdRead;
 use direct::DirectRead;
+use extension::ExtensionRead;
+use guard::Checked;
+use mediarecord::MediaClock;
+use mediarecord::MediaClockExt;
+use mediarecord::MediaClockSource;
+use mediarecord::MediaClockSourceRead;
+use mediarecord::OptId;
+use stream::StreamRead;
 
 enum MediaClockRead {
     Accepted(MediaClock),
@@ -31,13 +29,32 @@ enum FrontRead {
     Refused(Refusal),
 }
 
+// An extension: a name, and a value where there is one.
+fn read_extension(p: &[u8], at: usize) -> MediaClockRead
+    requires { ⌜ at + length (now p) ≤ 1024 ⌝ }
+    ensures { λ r. ⌜ mediaClockAnswer r ≡ extensionMediaOf at (now (p .entry)) ⌝ }
+{
+    // it fits, since a value has at most 1,024 bytes here
+    let start = at as u32;
+    match extension::read_extension(p, start, 22) {
+        ExtensionRead::Accepted(e) => {
+            let name = e.name;
+            let value = e.value;
+            MediaClockRead::Accepted(MediaClock::Ext(MediaClockExt { name, value }))
+        }
+        ExtensionRead::Refused(r) => MediaClockRead::Refused(r),
+    }
+}
+
 // `IEEE1722=`, else an extension: the rules behind `sender` and `direct`, neither of which stands here.
 fn read_stream_or_extension(p: &[u8], at: usize) -> MediaClockRead
     requires { ⌜ (at + length (now p) ≤ 1024) × (same (now p) (word "sender") ≡ false) × (starts (word "direct") (now p) ≡ false) ⌝ }
     ensures { λ r. ⌜ mediaClockAnswer r ≡ mediaClockOf at (now (p .entry)) ⌝ }
 {
     if text::has_prefix(p, b"IEEE1722=") {
-        match stream::read_stream(&p[9..], at + 9) {
+        // it fits, since a value has at most 1,024 bytes here
+        let start = (at + 9) as u32;
+        match stream::read_stream(&p[9..], start) {
             StreamRead::Accepted(stream) => {
                 let clock = MediaClock::Ieee1722StreamId(stream);
                 return MediaClockRead::Accepted(clock);
@@ -45,10 +62,7 @@ fn read_stream_or_extension(p: &[u8], at: usize) -> MediaClockRead
             StreamRead::Refused(r) => return MediaClockRead::Refused(r),
         }
     }
-    match extension::read_extension(p, at) {
-        ExtensionRead::Accepted(e) => MediaClockRead::Accepted(MediaClock::Ext(e)),
-        ExtensionRead::Refused(r) => MediaClockRead::Refused(r),
-    }
+    read_extension(p, at)
 }
 
 // `sender`; anything that begins with `direct`; else the other two.
@@ -91,12 +105,12 @@ fn read_tagged(v: &[u8]) -> FrontRead
     ensures { λ r. ⌜ Fronts (now (v .entry)) r ⌝ }
 {
     let n = v.len();
-    let i = text::find(&v[3..], b' ');
+    let i = search::find(&v[3..], b' ');
     let end = i + 3;
     if n <= end {
         return FrontRead::Refused(Refusal::new(12, n, 0));
     }
-    match id::read_id(&v[3..end], 3) {
+    match clockid::read_id(&v[3..end], 3) {
         IdRead::Accepted(id) => {
             let start = end + 1;
             FrontRead::Accepted(OptId::SomeId(id), start)
@@ -126,17 +140,12 @@ fn read_source(v: &[u8]) -> MediaClockSourceRead
     }
 }
 
-// A value over 1,024 bytes is refused, then one that is not well-formed UTF-8.
+// The guard first, then the rules.
 pub fn read_media_clock_source(value: &[u8]) -> MediaClockSourceRead
     ensures { λ r. ⌜ r ≡ readMediaClockSource (now (value .entry)) ⌝ }
 {
-    let n = value.len();
-    if 1024 < n {
-        let over = n - 1024;
-        return MediaClockSourceRead::Refused(Refusal::new(1, 1024, over));
-    }
-    match utf8::check_utf8(value) {
-        utf8::Utf8::Ill(at) => MediaClockSourceRead::Refused(Refusal::new(2, at, 1)),
-        utf8::Utf8::Well => read_source(value),
+    match guard::check_value(value) {
+        Checked::Refused(r) => MediaClockSourceRead::Refused(r),
+        Checked::Passed => read_source(value),
     }
 }

@@ -27,7 +27,8 @@ use Rattle.clock.specs.declared.OptPort.the-variants.{NoPort, SomePort}
 use Rattle.clock.specs.declared.NtpServerAddr.the-variants.{HostPort, Traceable}
 use Rattle.meaning.specs.Answer.{accepted, refused}
 use Rattle.meaning.specs.ReferenceClock.{portOf, addressOf, bracketOf, hostOf, ntpOf}
-use Rattle.ntp.specs.Answers.{portAnswer, ntpAnswer}
+use Rattle.ntp.specs.Private.AsAnswer.{portAnswer}
+use Rattle.ntp.specs.AsAnswer.{ntpAnswer}
 use Rattle.ntp.specs.declared.PortRead.{PortRead}
 use Rattle.ntp.specs.declared.PortRead.the-variants as port
 use Rattle.ntp.specs.declared.NtpRead.{NtpRead}

@@ -1,6 +1,6 @@
 -- One answer alone meets the contract of `read_ntp`. Assumes nothing.
 use Rattle.text.proofs.Bools.{clash}
-use Rattle.ntp.specs.Answers.{NtpSettled}
+use Rattle.ntp.specs.AsAnswer.{NtpSettled}
 use Rattle.ntp.specs.declared.NtpRead.the-variants.{Accepted, Refused}
 
 pub ntp-settled : NtpSettled

@@ -4,7 +4,8 @@ ghost use mathlib.Core.Path.{_≡_};
 ghost use Prim.Native.Nat.{_+_, _-_, _^_, _≤_, _<_};
 ghost use lib.ListN.{length, take, drop};
 ghost use Rattle.meaning.specs.ReferenceClock.{portOf, addressOf, bracketOf, hostOf, ntpOf};
-ghost use Rattle.ntp.specs.Answers.{portAnswer, ntpAnswer};
+ghost use Rattle.ntp.specs.Private.AsAnswer.{portAnswer};
+ghost use Rattle.ntp.specs.AsAnswer.{ntpAnswer};
 use clock::NtpServerAddr;
 use clock::OptPort;
 use clock::Refusal;
@@ -53,7 +54,7 @@ fn read_bracket(p: &[u8], at: usize) -> NtpRead
 {
     let n = p.len();
     let broken = Refusal::new(4, at, n);
-    let i = text::find_pair(&p[1..], b']', b':');
+    let i = search::find_pair(&p[1..], b']', b':');
     let end = i + 1;
     if end < n {
         let d = end + 2;
@@ -75,7 +76,7 @@ fn read_host(p: &[u8], at: usize) -> NtpRead
     ensures { λ r. ⌜ ntpAnswer r ≡ hostOf at (now (p .entry)) ⌝ }
 {
     let n = p.len();
-    let d = text::through_last(p, b':');
+    let d = search::through_last(p, b':');
     if d == 0 {
         let hostname = Place { start: at, len: n };
         return NtpRead::Accepted(NtpServerAddr::HostPort {

@@ -44,7 +44,8 @@ offsets = refl
 
 -- "/", "0", "9", ":", "@", "A", "F", "G", "`", "a", "f" and "g"
 hex : Each hexDigit (
-    47 gives 16 ∷ 48 gives 0 ∷ 57 gives 9 ∷ 58 gives 16 ∷ 64 gives 16 ∷ 65 gives 10 ∷ 70 gives 15 ∷ 71 gives 16 ∷ 96 gives 16 ∷ 97 gives 10 ∷ 102 gives 15 ∷ 103 gives 16 ∷ [])
+    47 gives 16 ∷ 48 gives 0 ∷ 57 gives 9 ∷ 58 gives 16 ∷ 64 gives 16 ∷ 65 gives 10 ∷ 70 gives 15 ∷ 71 gives 16
+    ∷ 96 gives 16 ∷ 97 gives 10 ∷ 102 gives 15 ∷ 103 gives 16 ∷ [])
 unfolding hexDigit
 hex = refl
 

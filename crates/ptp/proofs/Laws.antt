@@ -35,7 +35,7 @@ use Rattle.clock.specs.declared.PtpServer.the-variants.{GmidDomain, Traceable}
 use Rattle.meaning.specs.Answer.{accepted, refused}
 use Rattle.meaning.specs.Domain.{bare, bareRead}
 use Rattle.meaning.specs.ReferenceClock.{versionOf, gmidOf, domainOf, serverOf, ptpOf}
-use Rattle.ptp.specs.Answers.{versionAnswer, versionRefusal, domainAnswer, serverAnswer}
+use Rattle.ptp.specs.Private.AsAnswer.{versionAnswer, versionRefusal, domainAnswer, serverAnswer}
 use Rattle.ptp.specs.declared.VersionRead.{VersionRead}
 use Rattle.ptp.specs.declared.VersionRead.the-variants as version
 use Rattle.ptp.specs.declared.DomainRead.{DomainRead}

@@ -1,6 +1,6 @@
 -- One answer alone meets the contract of `read_ptp`. Assumes nothing.
 use Rattle.text.proofs.Bools.{clash}
-use Rattle.ptp.specs.Answers.{PtpSettled}
+use Rattle.ptp.specs.AsAnswer.{PtpSettled}
 use Rattle.ptp.specs.declared.PtpRead.the-variants.{Accepted, Refused}
 
 pub ptp-settled : PtpSettled

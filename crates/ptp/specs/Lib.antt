@@ -1,2 +1,3 @@
--- What the readers of this crate answer, in the paper's terms.
-pub mod Answers
+-- What the readers of this crate answer, in the terms of the rules.
+pub mod AsAnswer
+pub mod Private

@@ -5,7 +5,8 @@ ghost use Prim.Native.Nat.{_+_, _^_, _<_};
 ghost use lib.ListN.{length};
 ghost use Rattle.meaning.specs.Domain.{bare};
 ghost use Rattle.meaning.specs.ReferenceClock.{versionOf, serverOf, ptpOf};
-ghost use Rattle.ptp.specs.Answers.{versionAnswer, versionRefusal, domainAnswer, serverAnswer, ptpAnswer};
+ghost use Rattle.ptp.specs.Private.AsAnswer.{versionAnswer, versionRefusal, domainAnswer, serverAnswer};
+ghost use Rattle.ptp.specs.AsAnswer.{ptpAnswer};
 use clock::Eui64;
 use clock::OptDomain;
 use clock::Ptp;
@@ -95,7 +96,7 @@ fn read_server(p: &[u8], at: usize) -> ServerRead
     if text::is_word(p, b"traceable") {
         return ServerRead::Accepted(PtpServer::Traceable);
     }
-    let i = text::find(p, b':');
+    let i = search::find(p, b':');
     let got = eui64::read_eui64(&p[..i]);
     let eui64::Eui64Read::Id(id) = got else {
         return ServerRead::Refused(Refusal::new(9, at, i));
@@ -121,7 +122,7 @@ pub fn read_ptp(p: &[u8]) -> PtpRead
     ensures { λ r. ⌜ ptpAnswer r ≡ ptpOf bare 4 (now (p .entry)) ⌝ }
 {
     let n = p.len();
-    let i = text::find(p, b':');
+    let i = search::find(p, b':');
     if n <= i {
         return PtpRead::Refused(Refusal::new(7, 4, 0));
     }

@@ -20,9 +20,10 @@ use Rattle.meaning.specs.ReferenceClock.{portOf, addressOf, bracketOf, hostOf, 
 use Rattle.meaning.specs.ReferenceClock.{asReferenceClockRead}
 use Rattle.meaning.specs.Meaning.{refMeaning}
 use Rattle.meaning.proofs.Rows.{short, ref-plain, each-where}
-use Rattle.equal.specs.Said.{clockSays, sameNumbers, sameBehind, alikeSaid}
-use Rattle.equal.specs.Alike.{alike, hostsAlike}
-use Rattle.questions.specs.SameClock.{bothAlike, sameClock}
+use Rattle.equal.specs.Private.Flat.{clockSays, sameNumbers, sameBehind, alikeFlat}
+use Rattle.equal.specs.Private.Test.{alike}
+use Rattle.equal.specs.Alike.{hostsAlike}
+use Rattle.questions.specs.Private.Test.{bothAlike, sameClock}
 use Rattle.questions.specs.Governing.{gmidPlace, namePlace, readPlace, clockPlace}
 use Rattle.questions.specs.Examples.{ofPair, pairs, places}
 
@@ -50,7 +51,7 @@ pub pairs-hold : Each (ofPair sameClock) pairs
 unfolding clockOf ntpOf hostOf bracketOf addressOf portOf ptpOf versionOf serverOf gmidOf domainOf bareRead extensionOf refMeaning before beforePair
     throughLast same endsIn bytesAt numberOf digitsOf allDigits valueFrom hexDigit eui64Of segmentsOf segmentOf highDigit cutAtEach ipAddress
     ipv6address ipv4address ls32 doubleColon h16colon h16 decOctet hexdig nothing range _or_ _then_ times upto clockSays sameNumbers sameBehind
-    alikeSaid alike hostsAlike
+    alikeFlat alike hostsAlike
 pairs-hold = each-where (ofPair sameClock) (ofPair plainSame) shortPair same-plain pairs refl refl
 
 pub places-hold : Each clockPlace places

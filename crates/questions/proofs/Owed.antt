@@ -36,9 +36,11 @@ use Rattle.equal.specs.Decides.{Decides}
 use Rattle.equal.specs.Alike.{OneClock, equal, hostsAlike}
 use Rattle.equal.specs.Equality.{Equivalence}
 use Rattle.equal.proofs.Equality.{one-equal, alike-decides, classes}
-use Rattle.questions.specs.SameClock.{SameClock, bothAlike, sameClock}
+use Rattle.questions.specs.SameClock.{SameClock}
+use Rattle.questions.specs.Private.Test.{bothAlike, sameClock}
 use Rattle.questions.specs.Governing.{gmidPlace, clockPlace, governor, GoverningSettled}
-use Rattle.questions.specs.Owed.{Classes, SameIsEqual, SameClockDecides, GmidThere}
+use Rattle.questions.specs.Owed.{Classes, SameIsEqual, GmidThere}
+use Rattle.questions.specs.Private.Test.{SameClockDecides}
 use Rattle.questions.proofs.Laws.{first-refused, second-refused, both-accepted}
 
 pub same-clock-decides : SameClockDecides

@@ -3,3 +3,4 @@ pub mod SameClock
 pub mod Governing
 pub mod Owed
 pub mod Examples
+pub mod Private

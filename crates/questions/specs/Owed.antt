@@ -16,8 +16,7 @@ use Rattle.clock.specs.declared.ReferenceClock.the-variants.{Ptp}
 use Rattle.clock.specs.declared.ReferenceClockRead.the-variants.{Accepted}
 use Rattle.meaning.specs.ReferenceClock.{readReferenceClock}
 use Rattle.meaning.specs.Demand3.{SameReferenceClock}
-use Rattle.equal.specs.Decides.{Decides}
-use Rattle.questions.specs.SameClock.{SameClock, sameClock}
+use Rattle.questions.specs.SameClock.{SameClock}
 use Rattle.questions.specs.Governing.{gmidPlace}
 
 -- the same-clock question sorts accepted values into classes
@@ -36,10 +35,6 @@ pub record EqualRecords (v w : List ℕ) : Type 0 where
 
 abbrev pub SameIsEqual : Type 0
 SameIsEqual = (v w : List ℕ) → SameClock v w ↔ EqualRecords v w
-
--- the test decides it
-abbrev pub SameClockDecides : Type 0
-SameClockDecides = (v w : List ℕ) → Decides (sameClock v w) (SameClock v w)
 
 -- the text at the GMID's place is the GMID: it reads as the record's
 abbrev pub GmidThere : Type 0

@@ -42,9 +42,9 @@ fn gmid_place(v: &[u8]) -> Place
     ensures { λ r. ⌜ r ≡ gmidPlace (now (v .entry)) ⌝ }
 {
     let n = v.len();
-    let colon = text::find(v, b':');
+    let colon = search::find(v, b':');
     let start = colon + 1;
-    let len = text::find(text::part(v, Place { start, len: n }), b':');
+    let len = search::find(text::part(v, Place { start, len: n }), b':');
     Place { start, len }
 }
 

@@ -1,56 +1,47 @@
 -- One law for each way out of the crate's own functions. Assumes nothing.
-use Prim.Native.Nat.{ℕ, _+_, _-_, _≤_, _<_}
+use Prim.Native.Nat.{ℕ, _≤_}
 use mathlib.Core.Path.{_≡_, sym, ap, _∙_}
 use mathlib.Core.List.{List}
 use mathlib.Core.Bool.{Bool, true, false}
-use native.Mathlib.Omega.{arith}
 use lib.ListN.{length, drop}
-use borrow.Author.Tests.{eq-eqb, ne-eqb, lt-ltb, le-ltb}
-use Rattle.text.specs.Find.{before}
 use Rattle.text.specs.Word.{word, same, starts}
-use Rattle.text.specs.Place.{place}
 use Rattle.text.proofs.Left.{rest, rest-is}
 use Rattle.text.proofs.Cuts.{starts-long}
-use Rattle.utf8.specs.Utf8.{utf8Of}
-use Rattle.utf8.specs.declared.Utf8.{Utf8}
-use Rattle.utf8.specs.declared.Utf8.the-variants.{Well, Ill}
-use Rattle.clock.specs.Refusal.{refusal}
 use Rattle.clock.specs.Records.{ntp, clockSourceExt}
 use Rattle.clock.specs.declared.Refusal.{Refusal}
 use Rattle.clock.specs.declared.NtpServerAddr.{NtpServerAddr}
 use Rattle.clock.specs.declared.Ptp.{Ptp as PtpSource}
-use Rattle.clock.specs.declared.OptValue.the-variants.{NoValue, SomeValue}
 use Rattle.clock.specs.declared.PrivateSource.the-variants.{Standard, Traceable}
 use Rattle.clock.specs.declared.ReferenceClock.the-variants.{Ntp, Ptp, Gps, Gal, Glonass, Local, Private, Ext}
 use Rattle.clock.specs.declared.ReferenceClockRead.{ReferenceClockRead}
 use Rattle.clock.specs.declared.ReferenceClockRead.the-variants.{Accepted, Refused}
-use Rattle.meaning.specs.Answer.{extensionOf, guarded}
+use Rattle.meaning.specs.Answer.{accepted, extensionOf, guarded}
 use Rattle.meaning.specs.Domain.{bare}
 use Rattle.meaning.specs.ReferenceClock.{ntpOf, ptpOf, clockOf, referenceClockOf, asReferenceClockRead, readReferenceClock, extensionClockOf}
-use Rattle.ntp.specs.Answers.{ntpAnswer}
+use Rattle.guard.specs.AsAnswer.{checkedAnswer}
+use Rattle.guard.specs.declared.Checked.{Checked}
+use Rattle.guard.specs.declared.Checked.the-variants as checked
+use Rattle.guard.proofs.Laws.{guard-refused, guard-passed}
+use Rattle.extension.specs.AsAnswer.{extensionOfParts, extensionAnswer}
+use Rattle.extension.specs.declared.Extension.{Extension}
+use Rattle.extension.specs.declared.ExtensionRead.{ExtensionRead}
+use Rattle.extension.specs.declared.ExtensionRead.the-variants as extension
+use Rattle.extension.proofs.Laws.{extension-made, extension-refused}
+use Rattle.ntp.specs.AsAnswer.{ntpAnswer}
 use Rattle.ntp.specs.declared.NtpRead.{NtpRead}
 use Rattle.ntp.specs.declared.NtpRead.the-variants as server
-use Rattle.ptp.specs.Answers.{ptpAnswer}
+use Rattle.ptp.specs.AsAnswer.{ptpAnswer}
 use Rattle.ptp.specs.declared.PtpRead.{PtpRead}
 use Rattle.ptp.specs.declared.PtpRead.the-variants as source
 
 -- `read_extension`
-module _ (s : List ℕ) (i : ℕ) (ei : i ≡ before 61 s) where
-  pub extension-empty : i ≡ 0 → (r : Refusal) → r ≡ refusal 11 0 0 → Refused r ≡ asReferenceClockRead (extensionClockOf s)
-  unfolding extensionOf
-  extension-empty h r er = simp (← ei, eq-eqb _ _ h, er)
+module _ (s : List ℕ) (x : ExtensionRead) (ex : extensionAnswer x ≡ extensionOf extensionOfParts 11 0 s) where
+  pub clock-extension : (e : Extension) → x ≡ extension.Accepted e
+      → Accepted (Ext (clockSourceExt (e .name) (e .value))) ≡ asReferenceClockRead (extensionClockOf s)
+  clock-extension e q = simp (extension-made clockSourceExt 11 0 s x ex e q)
 
-  module _ (h : i ≡ 0 → ⊥) where
-    pub extension-value : i < length s
-        → Accepted (Ext (clockSourceExt (place 0 i) (SomeValue (place (i + 1) (length s - (i + 1)))))) ≡ asReferenceClockRead (extensionClockOf s)
-    unfolding extensionOf
-    extension-value l =
-        let z : 0 + (i + 1) ≡ i + 1 = omega arith in
-        simp (← ei, ne-eqb _ _ h, lt-ltb _ _ l, z)
-
-    pub extension-name : length s ≤ i → Accepted (Ext (clockSourceExt (place 0 i) NoValue)) ≡ asReferenceClockRead (extensionClockOf s)
-    unfolding extensionOf
-    extension-name l = simp (← ei, ne-eqb _ _ h, le-ltb _ _ l)
+  pub clock-no-extension : (r : Refusal) → x ≡ extension.Refused r → Refused r ≡ asReferenceClockRead (extensionClockOf s)
+  clock-no-extension r q = simp (extension-refused clockSourceExt 11 0 s x ex r q)
 
 -- `read_word`
 module _ (s : List ℕ) (p1 : starts (word "ntp=") s ≡ false) (p2 : starts (word "ptp=") s ≡ false) (t1 : Bool) (et1 : t1 ≡ same s (word "gps")) where
@@ -130,24 +121,18 @@ module _ (s : List ℕ) (t : Bool) (et : t ≡ starts (word "ntp=") s) where
     clock-ptp-refused r q = simp (← et, e, ← eu, f, ← behind-ptp, q)
 
 -- `read_reference_clock`
-module _ (s : List ℕ) where
-  pub value-long : 1024 < length s → (r : Refusal) → r ≡ refusal 1 1024 (length s - 1024) → Refused r ≡ readReferenceClock s
-  unfolding readReferenceClock referenceClockOf guarded
-  value-long h r er = simp (lt-ltb _ _ h, er)
+module _ (s : List ℕ) (x : Checked) (ex : checkedAnswer s x ≡ guarded s (accepted s)) where
+  pub value-refused : (r : Refusal) → x ≡ checked.Refused r → Refused r ≡ readReferenceClock s
+  unfolding readReferenceClock referenceClockOf
+  value-refused r e = guard-refused s x ex asReferenceClockRead (clockOf bare s) r e
 
-  module _ (h : length s ≤ 1024) (u : Utf8) (eu : u ≡ utf8Of s) where
-    pub value-ill : (at : ℕ) → u ≡ Ill at → (r : Refusal) → r ≡ refusal 2 at 1 → Refused r ≡ readReferenceClock s
-    unfolding readReferenceClock referenceClockOf guarded
-    value-ill at e r er = simp (le-ltb _ _ h, ← eu, e, er)
-
-    pub value-well : u ≡ Well → (r : ReferenceClockRead) → r ≡ asReferenceClockRead (clockOf bare s) → r ≡ readReferenceClock s
-    unfolding readReferenceClock referenceClockOf guarded
-    value-well e r er = simp (le-ltb _ _ h, ← eu, e) er
+  pub value-passed : x ≡ checked.Passed → (r : ReferenceClockRead) → r ≡ asReferenceClockRead (clockOf bare s) → r ≡ readReferenceClock s
+  unfolding readReferenceClock referenceClockOf
+  value-passed e r er = guard-passed s x ex asReferenceClockRead (clockOf bare s) e r er
 
 pub ruleset laws = (
-  extension-empty,
-  extension-value,
-  extension-name,
+  clock-extension,
+  clock-no-extension,
   word-gps,
   word-gal,
   word-glonass,
@@ -163,7 +148,6 @@ pub ruleset laws = (
   clock-ptp-refused,
   ptp-long,
   ptp-not,
-  value-long,
-  value-ill,
-  value-well,
+  value-refused,
+  value-passed,
 )

@@ -5,31 +5,24 @@ ghost use Rattle.text.specs.Word.{word, starts};
 ghost use Rattle.meaning.specs.Domain.{bare};
 ghost use Rattle.meaning.specs.ReferenceClock.{extensionClockOf, clockOf, asReferenceClockRead, readReferenceClock};
 use clock::ClockSourceExt;
-use clock::OptValue;
 use clock::PrivateSource;
 use clock::ReferenceClock;
 use clock::ReferenceClockRead;
-use clock::Refusal;
-use text::Place;
+use extension::ExtensionRead;
+use guard::Checked;
 
-// The name before the first `=`, the value after it.
+// An extension: a name, and a value where there is one.
 fn read_extension(v: &[u8]) -> ReferenceClockRead
     ensures { λ r. ⌜ r ≡ asReferenceClockRead (extensionClockOf (now (v .entry))) ⌝ }
 {
-    let n = v.len();
-    let i = text::find(v, b'=');
-    if i == 0 {
-        return ReferenceClockRead::Refused(Refusal::new(11, 0, 0));
+    match extension::read_extension(v, 0, 11) {
+        ExtensionRead::Accepted(e) => {
+            let name = e.name;
+            let value = e.value;
+            ReferenceClockRead::Accepted(ReferenceClock::Ext(ClockSourceExt { name, value }))
+        }
+        ExtensionRead::Refused(r) => ReferenceClockRead::Refused(r),
     }
-    let name = Place { start: 0, len: i };
-    if i < n {
-        let start = i + 1;
-        let len = n - start;
-        let value = OptValue::SomeValue(Place { start, len });
-        return ReferenceClockRead::Accepted(ReferenceClock::Ext(ClockSourceExt { name, value }));
-    }
-    let value = OptValue::NoValue;
-    ReferenceClockRead::Accepted(ReferenceClock::Ext(ClockSourceExt { name, value }))
 }
 
 // The whole words, else an extension: of a value that begins with neither `ntp=` nor `ptp=`.
@@ -78,17 +71,12 @@ fn read_clock(v: &[u8]) -> ReferenceClockRead
     read_word(v)
 }
 
-// A value over 1,024 bytes is refused, then one that is not well-formed UTF-8.
+// The guard first, then the rules.
 pub fn read_reference_clock(value: &[u8]) -> ReferenceClockRead
     ensures { λ r. ⌜ r ≡ readReferenceClock (now (value .entry)) ⌝ }
 {
-    let n = value.len();
-    if 1024 < n {
-        let over = n - 1024;
-        return ReferenceClockRead::Refused(Refusal::new(1, 1024, over));
-    }
-    match utf8::check_utf8(value) {
-        utf8::Utf8::Ill(at) => ReferenceClockRead::Refused(Refusal::new(2, at, 1)),
-        utf8::Utf8::Well => read_clock(value),
+    match guard::check_value(value) {
+        Checked::Refused(r) => ReferenceClockRead::Refused(r),
+        Checked::Passed => read_clock(value),
     }
 }

@@ -15,9 +15,9 @@ use Rattle.clock.specs.declared.Refusal.{Refusal}
 use Rattle.clock.specs.declared.ReferenceClock.{ReferenceClock}
 use Rattle.clock.specs.declared.ReferenceClockRead.{ReferenceClockRead}
 use Rattle.clock.specs.declared.ReferenceClockRead.the-variants as ref
-use Rattle.clock.specs.declared.MediaClockSource.{MediaClockSource}
-use Rattle.clock.specs.declared.MediaClockSourceRead.{MediaClockSourceRead}
-use Rattle.clock.specs.declared.MediaClockSourceRead.the-variants as media
+use Rattle.mediarecord.specs.declared.MediaClockSource.{MediaClockSource}
+use Rattle.mediarecord.specs.declared.MediaClockSourceRead.{MediaClockSourceRead}
+use Rattle.mediarecord.specs.declared.MediaClockSourceRead.the-variants as media
 use Rattle.clock.specs.declared.Wrote.the-variants.{Length}
 use Rattle.meaning.specs.ReferenceClock.{readReferenceClock}
 use Rattle.meaning.specs.MediaClock.{readMediaClockSource}

@@ -40,7 +40,13 @@ abbrev pub feedText : Reader → List ℕ → List ℕ
 feedText r s = printed (endedFrom (r .begun) s)
 
 unfoldable pub fed : Reader → List ℕ → Reader
-fed r s = record { begun = take 4098 (openFrom (r .begun) s); totals = countedAll (r .totals) (endedFrom (r .begun) s); read = r .read + length s; closed = false }
+fed r s =
+    record {
+      begun = take 4098 (openFrom (r .begun) s);
+      totals = countedAll (r .totals) (endedFrom (r .begun) s);
+      read = r .read + length s;
+      closed = false;
+    }
 
 -- the closing call: the last line, where there is one, and the totals
 unfoldable pub closeText : Reader → List ℕ

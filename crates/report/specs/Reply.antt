@@ -9,8 +9,8 @@ use Rattle.number.specs.Decimal.{decimal}
 use Rattle.clock.specs.declared.Refusal.{Refusal}
 use Rattle.clock.specs.declared.ReferenceClockRead.{ReferenceClockRead}
 use Rattle.clock.specs.declared.ReferenceClockRead.the-variants as ref
-use Rattle.clock.specs.declared.MediaClockSourceRead.{MediaClockSourceRead}
-use Rattle.clock.specs.declared.MediaClockSourceRead.the-variants as media
+use Rattle.mediarecord.specs.declared.MediaClockSourceRead.{MediaClockSourceRead}
+use Rattle.mediarecord.specs.declared.MediaClockSourceRead.the-variants as media
 use Rattle.meaning.specs.ReferenceClock.{readReferenceClock}
 use Rattle.meaning.specs.MediaClock.{readMediaClockSource}
 use Rattle.meaning.specs.Text.{referenceClockText, mediaClockSourceText}

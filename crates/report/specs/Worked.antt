@@ -1,4 +1,4 @@
--- The report of the text that the scope works out, with one space behind "+0". `proofs/Worked.antt` proves it.
+-- The report of the text that the rules work out, with one space behind "+0". `proofs/Worked.antt` proves it.
 use Prim.Native.Nat.{ℕ}
 use mathlib.Core.Path.{_≡_}
 use mathlib.Core.List.{List}

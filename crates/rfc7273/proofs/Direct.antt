@@ -20,10 +20,10 @@ use Rattle.utf8.specs.Utf8.{utf8Of}
 use Rattle.utf8.specs.declared.Utf8.the-variants.{Well}
 use Rattle.utf8.proofs.Text.{utf8-none, utf8-ascii, utf8-append, utf8-all-ascii}
 use Rattle.ipaddr.specs.Address.{digit}
-use Rattle.clock.specs.Records as made
-use Rattle.clock.specs.declared.OptOffset.the-variants.{NoOffset, SomeOffset}
-use Rattle.clock.specs.declared.OptRate.the-variants.{NoRate, SomeRate}
-use Rattle.clock.specs.declared.Direct.{Direct}
+use Rattle.mediarecord.specs.Records as made
+use Rattle.mediarecord.specs.declared.OptOffset.the-variants.{NoOffset, SomeOffset}
+use Rattle.mediarecord.specs.declared.OptRate.the-variants.{NoRate, SomeRate}
+use Rattle.mediarecord.specs.declared.Direct.{Direct}
 use Rattle.meaning.specs.Answer.{accepted}
 use Rattle.meaning.specs.MediaClock.{most32, denominatorOf, ratioOf, rateOf, offsetOf, directOf}
 use Rattle.meaning.specs.Meaning.{Ratio, ratio, MediaMeaning, direct, offsetMeans, rateMeans}

@@ -16,12 +16,13 @@ use Rattle.abnf.proofs.Free.{Lacks, free-laws}
 use Rattle.utf8.specs.Utf8.{utf8Of}
 use Rattle.utf8.specs.declared.Utf8.the-variants.{Well}
 use Rattle.utf8.proofs.Text.{utf8-ascii, utf8-append, utf8-all-ascii}
-use Rattle.clock.specs.Records.{eui64, mediaClockExt, mediaClockId, mediaClockSource}
-use Rattle.clock.specs.declared.OptId.the-variants.{NoId, SomeId}
-use Rattle.clock.specs.declared.MediaClockId.{MediaClockId}
-use Rattle.clock.specs.declared.MediaClock.{MediaClock}
-use Rattle.clock.specs.declared.MediaClock.the-variants as clock
-use Rattle.clock.specs.declared.MediaClockSource.{MediaClockSource}
+use Rattle.clock.specs.Records.{eui64}
+use Rattle.mediarecord.specs.Records.{mediaClockExt, mediaClockId, mediaClockSource}
+use Rattle.mediarecord.specs.declared.OptId.the-variants.{NoId, SomeId}
+use Rattle.mediarecord.specs.declared.MediaClockId.{MediaClockId}
+use Rattle.mediarecord.specs.declared.MediaClock.{MediaClock}
+use Rattle.mediarecord.specs.declared.MediaClock.the-variants as clock
+use Rattle.mediarecord.specs.declared.MediaClockSource.{MediaClockSource}
 use Rattle.meaning.specs.Answer.{accepted}
 use Rattle.meaning.specs.MediaClock.{streamOf, mediaClockOf, tagOf, idOf, taggedOf, sourceOf, mediaClockSourceOf, readMediaClockSource}
 use Rattle.meaning.specs.Meaning.{Tag, MediaMeaning, mediaExt, SourceMeaning, mediaSource, idMeans, mediaMeans, mediaMeaning}

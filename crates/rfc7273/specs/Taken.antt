@@ -9,8 +9,8 @@ use Rattle.text.specs.Word.{word}
 use Rattle.abnf.specs.Rule.{Rule}
 use Rattle.clock.specs.declared.ReferenceClock.{ReferenceClock}
 use Rattle.clock.specs.declared.ReferenceClockRead.the-variants as ref
-use Rattle.clock.specs.declared.MediaClockSource.{MediaClockSource}
-use Rattle.clock.specs.declared.MediaClockSourceRead.the-variants as src
+use Rattle.mediarecord.specs.declared.MediaClockSource.{MediaClockSource}
+use Rattle.mediarecord.specs.declared.MediaClockSourceRead.the-variants as src
 use Rattle.meaning.specs.ReferenceClock.{readReferenceClock}
 use Rattle.meaning.specs.MediaClock.{readMediaClockSource}
 use Rattle.meaning.specs.Meaning.{Version, name, gmid, RefMeaning, ptp, refMeaning, SourceMeaning, mediaMeaning}

@@ -4,16 +4,16 @@ use Rattle.text.proofs.Place as Place
 use Rattle.text.proofs.Place.Laws as PlaceLaws
 use Rattle.clock.proofs.ClockSourceExt as ClockSourceExt
 use Rattle.clock.proofs.ClockSourceExt.Laws as ClockSourceExtLaws
-use Rattle.clock.proofs.MediaClockSource as MediaClockSource
-use Rattle.clock.proofs.MediaClockSource.Laws as MediaClockSourceLaws
-use Rattle.clock.proofs.MediaClockId as MediaClockId
-use Rattle.clock.proofs.MediaClockId.Laws as MediaClockIdLaws
-use Rattle.clock.proofs.Rate as Rate
-use Rattle.clock.proofs.Rate.Laws as RateLaws
-use Rattle.clock.proofs.Direct as Direct
-use Rattle.clock.proofs.Direct.Laws as DirectLaws
-use Rattle.clock.proofs.MediaClockExt as MediaClockExt
-use Rattle.clock.proofs.MediaClockExt.Laws as MediaClockExtLaws
+use Rattle.mediarecord.proofs.MediaClockSource as MediaClockSource
+use Rattle.mediarecord.proofs.MediaClockSource.Laws as MediaClockSourceLaws
+use Rattle.mediarecord.proofs.MediaClockId as MediaClockId
+use Rattle.mediarecord.proofs.MediaClockId.Laws as MediaClockIdLaws
+use Rattle.mediarecord.proofs.Rate as Rate
+use Rattle.mediarecord.proofs.Rate.Laws as RateLaws
+use Rattle.mediarecord.proofs.Direct as Direct
+use Rattle.mediarecord.proofs.Direct.Laws as DirectLaws
+use Rattle.mediarecord.proofs.MediaClockExt as MediaClockExt
+use Rattle.mediarecord.proofs.MediaClockExt.Laws as MediaClockExtLaws
 use Rattle.setters.proofs.Plain.{Plain, struct}
 
 abbrev pub place : Plain

@@ -1,12 +1,13 @@
 // The setters in the Rust's own form: each alters the record that is lent to it, by the method of `clock` that gives the record anew.
 ghost use mathlib.Core.Path.{_≡_};
-ghost use Rattle.clock.specs.Setters.{withId, withMediaValue, withOffset, withRate, withSourceValue, withSrc};
+ghost use Rattle.clock.specs.Setters.{withSourceValue};
+ghost use Rattle.mediarecord.specs.Setters.{withId, withMediaValue, withOffset, withRate, withSrc};
 use clock::ClockSourceExt;
-use clock::Direct;
-use clock::MediaClockExt;
-use clock::MediaClockId;
-use clock::MediaClockSource;
-use clock::Rate;
+use mediarecord::Direct;
+use mediarecord::MediaClockExt;
+use mediarecord::MediaClockId;
+use mediarecord::MediaClockSource;
+use mediarecord::Rate;
 use text::Place;
 
 // `ClockSourceExt::set_value` of the Rust.

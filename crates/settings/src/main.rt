@@ -1,16 +1,17 @@
 // Lends records to each setter, and prints how each is written before and after every call.
 ghost use mathlib.Core.Path.{_≡_};
-ghost use Rattle.clock.specs.Setters.{withId, withMediaValue, withOffset, withRate, withSourceValue, withSrc};
+ghost use Rattle.clock.specs.Setters.{withSourceValue};
+ghost use Rattle.mediarecord.specs.Setters.{withId, withMediaValue, withOffset, withRate, withSrc};
 use clock::ClockSourceExt;
-use clock::Direct;
-use clock::MediaClock;
-use clock::MediaClockExt;
-use clock::MediaClockId;
-use clock::MediaClockSource;
-use clock::Rate;
 use clock::ReferenceClock;
 use clock::Wrote;
 use libc::STDOUT_FILENO;
+use mediarecord::Direct;
+use mediarecord::MediaClock;
+use mediarecord::MediaClockExt;
+use mediarecord::MediaClockId;
+use mediarecord::MediaClockSource;
+use mediarecord::Rate;
 use text::Place;
 
 // What the places of the records point into.

@@ -36,16 +36,16 @@ pub fn count(before: Totals, kind: Kind) -> Totals
     }
 }
 
-// A word of at most 7 bytes, and a number behind it.
+// A word of at most 7 bytes, and a number of at most 10 digits behind it.
 fn put_item(room: &mut [u8], at: usize, word: &[u8], n: u32) -> usize
     requires { ⌜ length (now word) ≤ 7 ⌝ }
     ensures { λ r. ⌜ Put 17 (now (room .entry)) at (now (word .entry) ++ decimal n) r (now (room .exit)) ⌝ }
 {
     let number = room::put_bytes(room, at, word);
-    room::put_decimal(room, number, n)
+    digits::put_decimal(room, number, n)
 }
 
-// The front of the line of the totals, as far as the refused lines.
+// The front of the line of the totals, as far as the refused lines: three items of at most 17 bytes.
 fn put_front(all: Totals, room: &mut [u8]) -> usize
     ensures { λ r. ⌜ Put 51 (now (room .entry)) 0
         (word "lines " ++ decimal (all .lines) ++ word " ok " ++ decimal (all .ok) ++ word " no " ++ decimal (all .no)) r (now (room .exit)) ⌝ }
@@ -55,7 +55,7 @@ fn put_front(all: Totals, room: &mut [u8]) -> usize
     put_item(room, no, b" no ", all.no)
 }
 
-// The line of the totals, from the room's front on.
+// The line of the totals, from the room's front on: five items and the LF.
 pub fn put_totals(all: Totals, room: &mut [u8]) -> usize
     ensures { λ r. ⌜ Put 86 (now (room .entry)) 0 (totalsText all) r (now (room .exit)) ⌝ }
 {

@@ -1,10 +1,8 @@
 -- Where a byte, or a mark of two bytes, stands in a text.
-use Prim.Native.Nat.{ℕ, zero, suc, _+_, _-_, _≤_, _<_}
-use mathlib.Core.Path.{_≡_}
+use Prim.Native.Nat.{ℕ, zero, suc}
 use mathlib.Core.List.{List, [], _∷_}
 use mathlib.Core.Bool.{Bool, false, cond, _&&_}
 use lib.Dec.{eqb}
-use lib.ListN.{length, drop}
 
 -- how many bytes stand before the first b: all of them where there is none
 unfoldable pub before : ℕ → List ℕ → ℕ
@@ -31,11 +29,3 @@ sucOr (suc k) other = suc (suc k)
 unfoldable pub throughLast : ℕ → List ℕ → ℕ
 throughLast b [] = 0
 throughLast b (x ∷ s) = sucOr (throughLast b s) (cond (eqb x b) 1 0)
-
--- What is owed by the private functions that pass bytes: r bytes of s are passed, and none of them is b.
-abbrev pub Passes : ℕ → List ℕ → ℕ → Type 0
-Passes b s r = (r ≤ length s) × (before b s ≡ r + before b (drop r s))
-
--- the same, and where eight are left one of the next eight is b
-abbrev pub Nears : ℕ → List ℕ → ℕ → Type 0
-Nears b s r = Passes b s r × (8 ≤ length s - r → before b (drop r s) < 8)

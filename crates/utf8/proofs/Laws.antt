@@ -19,8 +19,8 @@ use Rattle.utf8.specs.declared.Lead.{Lead}
 use Rattle.utf8.specs.declared.Lead.the-variants.{Never, Starts}
 use Rattle.utf8.specs.declared.Utf8.the-variants.{Well, Ill}
 use Rattle.utf8.specs.Utf8.{utf8Char, utf8Octets, utf8Of}
-use Rattle.utf8.specs.Lead.{tails, goesOn}
-use Rattle.utf8.specs.Passes.{Passes}
+use Rattle.utf8.specs.Private.Lead.{tails, goesOn}
+use Rattle.utf8.specs.Private.Passes.{Passes}
 use Rattle.utf8.proofs.Leads.{ascii-whole}
 
 -- the bytes behind a first one, and whole sequences behind them

@@ -11,7 +11,7 @@ use Rattle.text.proofs.Bools.{and-left, and-right}
 use Rattle.abnf.specs.Rule.{Rule, nothing, _or_}
 use Rattle.abnf.proofs.Rules.{range-first, range-then}
 use Rattle.utf8.specs.Utf8.{utf8Char}
-use Rattle.utf8.specs.Lead.{tails}
+use Rattle.utf8.specs.Private.Lead.{tails}
 
 -- a form of UTF8-char: a first byte from low to high, and `more` bytes behind it, the first of them from lo to hi
 pub record Form : Type 0 where

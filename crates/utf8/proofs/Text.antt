@@ -17,7 +17,7 @@ use Rattle.abnf.proofs.Many.{many-cons, many-append, Alone, many-cut}
 use Rattle.abnf.proofs.Longest.{longest-le, longest-all}
 use Rattle.utf8.specs.declared.Utf8.the-variants.{Well, Ill}
 use Rattle.utf8.specs.Utf8.{utf8Char, utf8Octets, utf8Of}
-use Rattle.utf8.specs.Lead.{tails}
+use Rattle.utf8.specs.Private.Lead.{tails}
 use Rattle.utf8.proofs.Leads.{Form, forms, after, char-after, ascii-whole}
 
 -- well-formed is a text of UTF8-octets, and nothing else

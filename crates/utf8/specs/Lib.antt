@@ -1,5 +1,4 @@
 -- The definitions that this crate's contracts cite, and examples of them.
 pub mod Utf8
-pub mod Lead
-pub mod Passes
 pub mod Examples
+pub mod Private

@@ -3,8 +3,8 @@ ghost use mathlib.Core.Path.{_≡_};
 ghost use mathlib.Core.List.{List, _∷_};
 ghost use Prim.Native.Nat.{ℕ};
 ghost use Rattle.utf8.specs.Utf8.{utf8Char, utf8Of};
-ghost use Rattle.utf8.specs.Lead.{goesOn};
-ghost use Rattle.utf8.specs.Passes.{Passes};
+ghost use Rattle.utf8.specs.Private.Lead.{goesOn};
+ghost use Rattle.utf8.specs.Private.Passes.{Passes};
 
 // Well-formed, or the place where the first ill-formed sequence starts.
 pub enum Utf8 {
@@ -90,7 +90,7 @@ pub fn check_utf8(s: &[u8]) -> Utf8
         let mut high = hi;
         let mut left = more;
         let mut next = at + 1;
-        'tails: while 0 < left {
+        while 0 < left {
             if s.len() <= next {
                 break 'sequences at; // the text ends inside the sequence
             }

@@ -7,7 +7,7 @@ use mathlib.Core.Logic.{_↔_}
 use mathlib.Core.List.{List}
 use lib.ListN.{length}
 use Rattle.clock.specs.declared.ReferenceClock.{ReferenceClock}
-use Rattle.clock.specs.declared.MediaClockSource.{MediaClockSource}
+use Rattle.mediarecord.specs.declared.MediaClockSource.{MediaClockSource}
 use Rattle.clock.specs.declared.Wrote.{Wrote}
 use Rattle.clock.specs.declared.Wrote.the-variants.{Length}
 use Rattle.meaning.specs.Text.{referenceClockText, mediaClockSourceText}

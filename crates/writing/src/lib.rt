@@ -6,16 +6,12 @@ ghost use lib.ListN.{length};
 ghost use Rattle.meaning.specs.Text.{referenceClockText, mediaClockSourceText};
 ghost use Rattle.meaning.specs.Inside.{referenceClockInside, mediaClockSourceInside};
 ghost use Rattle.writing.specs.Writes.{Writes};
-use clock::MediaClockSource;
 use clock::ReferenceClock;
 use clock::Refusal;
 use clock::WriteRefusal;
 use clock::Wrote;
-use recordtext::media;
-use recordtext::reference;
-
-// How many bytes a value may have.
-const MOST_BYTES: usize = 1024;
+use guard::MOST_VALUE_BYTES;
+use mediarecord::MediaClockSource;
 
 // How long the text is: it is put into no room.
 fn measure_reference_clock(value: &[u8], clock: ReferenceClock) -> usize
@@ -23,7 +19,7 @@ fn measure_reference_clock(value: &[u8], clock: ReferenceClock) -> usize
     ensures { λ r. ⌜ r ≡ length (referenceClockText (now (value .entry)) clock) ⌝ }
 {
     let mut nothing = [0u8; 0];
-    reference::put_clock(&mut nothing, 0, value, clock)
+    reftext::put_clock(&mut nothing, 0, value, clock)
 }
 
 pub fn write_reference_clock(clock: ReferenceClock, value: &[u8], room: &mut [u8]) -> Wrote
@@ -31,23 +27,27 @@ pub fn write_reference_clock(clock: ReferenceClock, value: &[u8], room: &mut [u8
         (referenceClockText (now (value .entry)) clock) (now (room .entry)) r (now (room .exit)) ⌝ }
 {
     let n = value.len();
-    if MOST_BYTES < n {
-        return Wrote::Refused(WriteRefusal::Value(Refusal::new(1, MOST_BYTES, n - MOST_BYTES)));
+    if MOST_VALUE_BYTES < n {
+        return Wrote::Refused(WriteRefusal::Value(Refusal::new(
+            1,
+            MOST_VALUE_BYTES,
+            n - MOST_VALUE_BYTES,
+        )));
     }
     if !inside::reference::is_clock_inside(value, clock) {
         return Wrote::Refused(WriteRefusal::Outside);
     }
-    // a room that is long enough for any record over this value needs no measuring
+    // a room that is long enough for any record over this value needs no measuring: the bound of `reftext::put_clock`
     let most = 2 * n + 55;
     if most <= room.len() {
-        let written = reference::put_clock(room, 0, value, clock);
+        let written = reftext::put_clock(room, 0, value, clock);
         return Wrote::Length(written);
     }
     let needed = measure_reference_clock(value, clock);
     if room.len() < needed {
         return Wrote::Refused(WriteRefusal::Room(needed));
     }
-    reference::put_clock(room, 0, value, clock);
+    reftext::put_clock(room, 0, value, clock);
     Wrote::Length(needed)
 }
 
@@ -57,7 +57,7 @@ fn measure_media_clock_source(value: &[u8], source: MediaClockSource) -> usize
     ensures { λ r. ⌜ r ≡ length (mediaClockSourceText (now (value .entry)) source) ⌝ }
 {
     let mut nothing = [0u8; 0];
-    media::put_source(&mut nothing, 0, value, source)
+    mediatext::put_source(&mut nothing, 0, value, source)
 }
 
 pub fn write_media_clock_source(source: MediaClockSource, value: &[u8], room: &mut [u8]) -> Wrote
@@ -65,22 +65,26 @@ pub fn write_media_clock_source(source: MediaClockSource, value: &[u8], room: &m
         (mediaClockSourceText (now (value .entry)) source) (now (room .entry)) r (now (room .exit)) ⌝ }
 {
     let n = value.len();
-    if MOST_BYTES < n {
-        return Wrote::Refused(WriteRefusal::Value(Refusal::new(1, MOST_BYTES, n - MOST_BYTES)));
+    if MOST_VALUE_BYTES < n {
+        return Wrote::Refused(WriteRefusal::Value(Refusal::new(
+            1,
+            MOST_VALUE_BYTES,
+            n - MOST_VALUE_BYTES,
+        )));
     }
     if !inside::media::is_source_inside(value, source) {
         return Wrote::Refused(WriteRefusal::Outside);
     }
-    // a room that is long enough for any record over this value needs no measuring
+    // the same: the bound of `mediatext::put_source`
     let most = 3 * n + 52;
     if most <= room.len() {
-        let written = media::put_source(room, 0, value, source);
+        let written = mediatext::put_source(room, 0, value, source);
         return Wrote::Length(written);
     }
     let needed = measure_media_clock_source(value, source);
     if room.len() < needed {
         return Wrote::Refused(WriteRefusal::Room(needed));
     }
-    media::put_source(room, 0, value, source);
+    mediatext::put_source(room, 0, value, source);
     Wrote::Length(needed)
 }

@@ -65,11 +65,17 @@ enum-told-4 c = search needs
 enum-told-5 : tie.Need-enum-told-5 Inv-loop μ-loop
 enum-told-5 c = search needs
 
+say-broken-requires : tie.Need-say-broken-requires Inv-loop μ-loop
+say-broken-requires c κs = search needs
+
 returns : tie.Need-returns Inv-loop μ-loop
 returns c = search needs
 
 print-held-requires : tie.Need-print-held-requires Inv-loop μ-loop
 print-held-requires c κs = search needs
+
+say-broken-requires-2 : tie.Need-say-broken-requires-2 Inv-loop μ-loop
+say-broken-requires-2 c κs = search needs
 
 returns-2 : tie.Need-returns-2 Inv-loop μ-loop
 returns-2 c = search needs
@@ -110,8 +116,10 @@ main-spec =
     enum-told-3
     enum-told-4
     enum-told-5
+    say-broken-requires
     returns
     print-held-requires
+    say-broken-requires-2
     returns-2
     slice-aggregate-say
     say-requires

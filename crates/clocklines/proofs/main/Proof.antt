@@ -61,8 +61,8 @@ loop-again c = search (needs, laws)
 close-requires : tie.Need-close-requires Inv-loop μ-loop
 close-requires c κs = search (needs, laws)
 
-write-said-requires : tie.Need-write-said-requires Inv-loop μ-loop
-write-said-requires c κs = search (needs, laws)
+write-filling-requires : tie.Need-write-filling-requires Inv-loop μ-loop
+write-filling-requires c κs = search (needs, laws)
 
 say-broken-requires-2 : tie.Need-say-broken-requires-2 Inv-loop μ-loop
 say-broken-requires-2 c κs = search (needs, laws)
@@ -96,7 +96,7 @@ main-spec =
     loop-less
     loop-again
     close-requires
-    write-said-requires
+    write-filling-requires
     say-broken-requires-2
     returns-2
     returns-3)

@@ -13,8 +13,8 @@ mul-most c = search needs
 returns : tie.Need-returns
 returns c = search (needs, laws)
 
-zeros-requires : tie.Need-zeros-requires
-zeros-requires c κs = search needs
+open-line-requires : tie.Need-open-line-requires
+open-line-requires c κs = search needs
 
 slice-aggregate-scratch : tie.Need-slice-aggregate-scratch
 slice-aggregate-scratch c = search needs
@@ -41,7 +41,7 @@ fits-spec =
     add-most
     mul-most
     returns
-    zeros-requires
+    open-line-requires
     slice-aggregate-scratch
     keep-requires
     array-borrow-prefix-none

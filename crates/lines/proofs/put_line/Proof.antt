@@ -7,17 +7,17 @@ use Rattle.lines.proofs.put_line.Tie as tie
 least-requires : tie.Need-least-requires
 least-requires c κs = search needs
 
-sub-answer-line : tie.Need-sub-answer-line
-sub-answer-line c = search needs
+sub-reply-to-line : tie.Need-sub-reply-to-line
+sub-reply-to-line c = search needs
 
-part-answer-line-start : tie.Need-part-answer-line-start
-part-answer-line-start c = search needs
+part-reply-to-line-start : tie.Need-part-reply-to-line-start
+part-reply-to-line-start c = search needs
 
-part-answer-line-end : tie.Need-part-answer-line-end
-part-answer-line-end c = search needs
+part-reply-to-line-end : tie.Need-part-reply-to-line-end
+part-reply-to-line-end c = search needs
 
-answer-line-requires : tie.Need-answer-line-requires
-answer-line-requires c κs = search needs
+reply-to-line-requires : tie.Need-reply-to-line-requires
+reply-to-line-requires c κs = search needs
 
 same-length : tie.Need-same-length
 same-length c = search needs
@@ -30,9 +30,9 @@ put-line-spec =
     tie.close
     (tie.spec
     least-requires
-    sub-answer-line
-    part-answer-line-start
-    part-answer-line-end
-    answer-line-requires
+    sub-reply-to-line
+    part-reply-to-line-start
+    part-reply-to-line-end
+    reply-to-line-requires
     same-length
     returns)

@@ -7,17 +7,17 @@ use Rattle.lines.proofs.put_plain.Tie as tie
 least-requires : tie.Need-least-requires
 least-requires c κs = search needs
 
-sub-answer-plain : tie.Need-sub-answer-plain
-sub-answer-plain c = search needs
+sub-reply-to-plain : tie.Need-sub-reply-to-plain
+sub-reply-to-plain c = search needs
 
-part-answer-plain-start : tie.Need-part-answer-plain-start
-part-answer-plain-start c = search needs
+part-reply-to-plain-start : tie.Need-part-reply-to-plain-start
+part-reply-to-plain-start c = search needs
 
-part-answer-plain-end : tie.Need-part-answer-plain-end
-part-answer-plain-end c = search needs
+part-reply-to-plain-end : tie.Need-part-reply-to-plain-end
+part-reply-to-plain-end c = search needs
 
-answer-plain-requires : tie.Need-answer-plain-requires
-answer-plain-requires c κs = search needs
+reply-to-plain-requires : tie.Need-reply-to-plain-requires
+reply-to-plain-requires c κs = search needs
 
 same-length : tie.Need-same-length
 same-length c = search needs
@@ -30,9 +30,9 @@ put-plain-spec =
     tie.close
     (tie.spec
     least-requires
-    sub-answer-plain
-    part-answer-plain-start
-    part-answer-plain-end
-    answer-plain-requires
+    sub-reply-to-plain
+    part-reply-to-plain-start
+    part-reply-to-plain-end
+    reply-to-plain-requires
     same-length
     returns)

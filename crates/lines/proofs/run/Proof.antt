@@ -1,7 +1,7 @@
 -- `lines::run` meets its contract: what is settled of all of the fragment is settled by what is left of it.
 use Rattle.lines.proofs.Laws.{Run, run-fits, laws}
 use lib.ListN.{length}
-use Rattle.lines.specs.Steps.{progress}
+use Rattle.lines.specs.Private.Steps.{progress}
 use Prim.Native.Nat.{_-_}
 use borrow.Author.Needs.{needs}
 use Rattle.lines.proofs.run.Statement.{statement}

@@ -22,6 +22,15 @@ enum-told c = search needs
 enum-told-2 : tie.Need-enum-told-2 Inv-loop μ-loop
 enum-told-2 c = search needs
 
+say-broken-requires : tie.Need-say-broken-requires Inv-loop μ-loop
+say-broken-requires c κs = search needs
+
+returns : tie.Need-returns Inv-loop μ-loop
+returns c = search needs
+
+enum-told-3 : tie.Need-enum-told-3 Inv-loop μ-loop
+enum-told-3 c = search needs
+
 add-frames : tie.Need-add-frames Inv-loop μ-loop
 add-frames c = search needs
 
@@ -31,8 +40,8 @@ loop-less c = search needs
 loop-again : tie.Need-loop-again Inv-loop μ-loop
 loop-again c = search needs
 
-enum-told-3 : tie.Need-enum-told-3 Inv-loop μ-loop
-enum-told-3 c = search needs
+enum-told-4 : tie.Need-enum-told-4 Inv-loop μ-loop
+enum-told-4 c = search needs
 
 add-frames-2 : tie.Need-add-frames-2 Inv-loop μ-loop
 add-frames-2 c = search needs
@@ -52,8 +61,8 @@ sub-say-sums c = search needs
 say-sums-requires : tie.Need-say-sums-requires Inv-loop μ-loop
 say-sums-requires c κs = search needs
 
-returns : tie.Need-returns Inv-loop μ-loop
-returns c = search needs
+returns-2 : tie.Need-returns-2 Inv-loop μ-loop
+returns-2 c = search needs
 
 pub main-spec : {M : Type 1} → statement M
 main-spec =
@@ -65,14 +74,17 @@ main-spec =
     say-next-requires
     enum-told
     enum-told-2
+    say-broken-requires
+    returns
+    enum-told-3
     add-frames
     loop-less
     loop-again
-    enum-told-3
+    enum-told-4
     add-frames-2
     add-records
     loop-less-2
     loop-again-2
     sub-say-sums
     say-sums-requires
-    returns)
+    returns-2)

@@ -1,4 +1,4 @@
--- `mediaclk::read_stream_or_extension` meets its contract: what comes of the stream and of the extension is a law each.
+-- `mediaclk::read_stream_or_extension` meets its contract: the two rules that are left, in their order.
 use Rattle.mediaclk.proofs.Laws.{laws}
 use borrow.Author.Needs.{needs}
 use Rattle.mediaclk.proofs.read_stream_or_extension.Statement.{statement}
@@ -10,6 +10,12 @@ slice-aggregate-has-prefix c = search needs
 has-prefix-requires : tie.Need-has-prefix-requires
 has-prefix-requires c κs = search needs
 
+add-start : tie.Need-add-start
+add-start c = search needs
+
+cast-start : tie.Need-cast-start
+cast-start c = search needs
+
 sub-read-stream : tie.Need-sub-read-stream
 sub-read-stream c = search (needs, laws)
 
@@ -19,11 +25,8 @@ part-read-stream-start c = search (needs, laws)
 part-read-stream-end : tie.Need-part-read-stream-end
 part-read-stream-end c = search needs
 
-add-read-stream : tie.Need-add-read-stream
-add-read-stream c = search needs
-
 read-stream-requires : tie.Need-read-stream-requires
-read-stream-requires c κs = search (needs, laws)
+read-stream-requires c κs = search needs
 
 enum-known-stream : tie.Need-enum-known-stream
 enum-known-stream c = search needs
@@ -40,17 +43,8 @@ returns-2 c = search (needs, laws)
 read-extension-requires : tie.Need-read-extension-requires
 read-extension-requires c κs = search needs
 
-enum-known-e : tie.Need-enum-known-e
-enum-known-e c = search needs
-
-enum-known-r-2 : tie.Need-enum-known-r-2
-enum-known-r-2 c = search needs
-
 returns-3 : tie.Need-returns-3
 returns-3 c = search (needs, laws)
-
-returns-4 : tie.Need-returns-4
-returns-4 c = search (needs, laws)
 
 pub read-stream-or-extension-spec : {M : Type 1} → statement M
 read-stream-or-extension-spec =
@@ -58,17 +52,15 @@ read-stream-or-extension-spec =
     (tie.spec
     slice-aggregate-has-prefix
     has-prefix-requires
+    add-start
+    cast-start
     sub-read-stream
     part-read-stream-start
     part-read-stream-end
-    add-read-stream
     read-stream-requires
     enum-known-stream
     returns
     enum-known-r
     returns-2
     read-extension-requires
-    enum-known-e
-    enum-known-r-2
-    returns-3
-    returns-4)
+    returns-3)

@@ -1,30 +1,24 @@
--- `refclk::read_extension` meets its contract: one law for each way out.
+-- `refclk::read_extension` meets its contract: a clock is made of the parts that were read, or their refusal is handed on.
 use Rattle.refclk.proofs.Laws.{laws}
 use borrow.Author.Needs.{needs}
 use Rattle.refclk.proofs.read_extension.Statement.{statement}
 use Rattle.refclk.proofs.read_extension.Tie as tie
 
-find-requires : tie.Need-find-requires
-find-requires c κs = search needs
+read-extension-requires : tie.Need-read-extension-requires
+read-extension-requires c κs = search needs
 
-new-requires : tie.Need-new-requires
-new-requires c κs = search needs
+enum-known-e : tie.Need-enum-known-e
+enum-known-e c = search needs
+
+enum-known-r : tie.Need-enum-known-r
+enum-known-r c = search needs
 
 returns : tie.Need-returns
 returns c = search (needs, laws)
 
-add-start : tie.Need-add-start
-add-start c = search needs
-
-sub-len : tie.Need-sub-len
-sub-len c = search needs
-
 returns-2 : tie.Need-returns-2
 returns-2 c = search (needs, laws)
 
-returns-3 : tie.Need-returns-3
-returns-3 c = search (needs, laws)
-
 pub read-extension-spec : {M : Type 1} → statement M
 read-extension-spec =
-    tie.close (tie.spec find-requires new-requires returns add-start sub-len returns-2 returns-3)
+    tie.close (tie.spec read-extension-requires enum-known-e enum-known-r returns returns-2)

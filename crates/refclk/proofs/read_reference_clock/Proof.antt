@@ -1,26 +1,14 @@
--- `refclk::read_reference_clock` meets its contract: one law for each way out: the length, then UTF-8, then the value.
+-- `refclk::read_reference_clock` meets its contract: the guard, then the value.
 use Rattle.refclk.proofs.Laws.{laws}
 use borrow.Author.Needs.{needs}
 use Rattle.refclk.proofs.read_reference_clock.Statement.{statement}
 use Rattle.refclk.proofs.read_reference_clock.Tie as tie
 
-sub-over : tie.Need-sub-over
-sub-over c = search needs
+check-value-requires : tie.Need-check-value-requires
+check-value-requires c κs = search needs
 
-new-requires : tie.Need-new-requires
-new-requires c κs = search needs
-
-returns : tie.Need-returns
-returns c = search (needs, laws)
-
-check-utf8-requires : tie.Need-check-utf8-requires
-check-utf8-requires c κs = search needs
-
-enum-known-at : tie.Need-enum-known-at
-enum-known-at c = search needs
-
-new-requires-2 : tie.Need-new-requires-2
-new-requires-2 c κs = search needs
+enum-known-r : tie.Need-enum-known-r
+enum-known-r c = search needs
 
 enum-told : tie.Need-enum-told
 enum-told c = search needs
@@ -28,23 +16,13 @@ enum-told c = search needs
 read-clock-requires : tie.Need-read-clock-requires
 read-clock-requires c κs = search needs
 
+returns : tie.Need-returns
+returns c = search (needs, laws)
+
 returns-2 : tie.Need-returns-2
 returns-2 c = search (needs, laws)
-
-returns-3 : tie.Need-returns-3
-returns-3 c = search (needs, laws)
 
 pub read-reference-clock-spec : {M : Type 1} → statement M
 read-reference-clock-spec =
     tie.close
-    (tie.spec
-    sub-over
-    new-requires
-    returns
-    check-utf8-requires
-    enum-known-at
-    new-requires-2
-    enum-told
-    read-clock-requires
-    returns-2
-    returns-3)
+    (tie.spec check-value-requires enum-known-r enum-told read-clock-requires returns returns-2)

@@ -1,8 +1,8 @@
 -- `setters::set_id` is a setter over `MediaClockSource::set_id`, and what it promises is what that gives.
 use base.Logic.{id⊢}
-use Rattle.clock.specs.Setters.{withId}
-use Rattle.clock.proofs.MediaClockSource.set_id.Symbol as method
-use Rattle.clock.proofs.MediaClockSource.set_id.Met.{met}
+use Rattle.mediarecord.specs.Setters.{withId}
+use Rattle.mediarecord.proofs.MediaClockSource.set_id.Symbol as method
+use Rattle.mediarecord.proofs.MediaClockSource.set_id.Met.{met}
 use Rattle.setters.proofs.Records.{media-clock-id, media-clock-source}
 use Rattle.setters.proofs.Setter.{setter}
 use Rattle.setters.proofs.set_id.{clauses}
@@ -15,4 +15,4 @@ unfolding code.routine
 set-id-spec 𝓤 H 𝓜 𝓖 𝓡 =
     setter media-clock-source media-clock-id withId 𝓤 H 𝓜 𝓖 𝓡
     (λ κs a. clauses 𝓤 H (𝓖 .A) (𝓜 .mem) (𝓡 .run) κs a .ensures) (λ κs a r ws. id⊢ 𝓤 _)
-    code.env name method.name method.routine (code.unfolded 𝓤 H 𝓜 𝓡) code.calls-clock·MediaClockSource·set-id (met 𝓤 H 𝓜 𝓖 𝓡)
+    code.env name method.name method.routine (code.unfolded 𝓤 H 𝓜 𝓡) code.calls-mediarecord·MediaClockSource·set-id (met 𝓤 H 𝓜 𝓖 𝓡)

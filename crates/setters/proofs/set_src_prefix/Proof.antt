@@ -1,8 +1,8 @@
 -- `setters::set_src_prefix` is a setter over `MediaClockId::set_src_prefix`, and what it promises is what that gives.
 use base.Logic.{id⊢}
-use Rattle.clock.specs.Setters.{withSrc}
-use Rattle.clock.proofs.MediaClockId.set_src_prefix.Symbol as method
-use Rattle.clock.proofs.MediaClockId.set_src_prefix.Met.{met}
+use Rattle.mediarecord.specs.Setters.{withSrc}
+use Rattle.mediarecord.proofs.MediaClockId.set_src_prefix.Symbol as method
+use Rattle.mediarecord.proofs.MediaClockId.set_src_prefix.Met.{met}
 use Rattle.setters.proofs.Plain.{bool}
 use Rattle.setters.proofs.Records.{media-clock-id}
 use Rattle.setters.proofs.Setter.{setter}
@@ -16,4 +16,4 @@ unfolding code.routine
 set-src-prefix-spec 𝓤 H 𝓜 𝓖 𝓡 =
     setter media-clock-id bool withSrc 𝓤 H 𝓜 𝓖 𝓡
     (λ κs a. clauses 𝓤 H (𝓖 .A) (𝓜 .mem) (𝓡 .run) κs a .ensures) (λ κs a r ws. id⊢ 𝓤 _)
-    code.env name method.name method.routine (code.unfolded 𝓤 H 𝓜 𝓡) code.calls-clock·MediaClockId·set-src-prefix (met 𝓤 H 𝓜 𝓖 𝓡)
+    code.env name method.name method.routine (code.unfolded 𝓤 H 𝓜 𝓡) code.calls-mediarecord·MediaClockId·set-src-prefix (met 𝓤 H 𝓜 𝓖 𝓡)

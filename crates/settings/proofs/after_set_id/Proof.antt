@@ -1,5 +1,5 @@
 -- `settings::after_set_id` lends its record to `setters::set_id`.
-use Rattle.clock.specs.Setters.{withId}
+use Rattle.mediarecord.specs.Setters.{withId}
 use Rattle.setters.proofs.Records.{media-clock-id, media-clock-source}
 use Rattle.setters.proofs.Lender.{lender}
 use Rattle.setters.proofs.set_id.Symbol as setter

@@ -1,5 +1,5 @@
 -- `settings::after_set_media_value` lends its record to `setters::set_media_value`.
-use Rattle.clock.specs.Setters.{withMediaValue}
+use Rattle.mediarecord.specs.Setters.{withMediaValue}
 use Rattle.setters.proofs.Records.{media-clock-ext, place}
 use Rattle.setters.proofs.Lender.{lender}
 use Rattle.setters.proofs.set_media_value.Symbol as setter

@@ -1,6 +1,6 @@
 -- `settings::after_set_offset` lends its record to `setters::set_offset`.
 use mir.Syntax.{w32}
-use Rattle.clock.specs.Setters.{withOffset}
+use Rattle.mediarecord.specs.Setters.{withOffset}
 use Rattle.setters.proofs.Plain.{uint}
 use Rattle.setters.proofs.Records.{direct}
 use Rattle.setters.proofs.Lender.{lender}

@@ -1,5 +1,5 @@
 -- `settings::after_set_rate` lends its record to `setters::set_rate`.
-use Rattle.clock.specs.Setters.{withRate}
+use Rattle.mediarecord.specs.Setters.{withRate}
 use Rattle.setters.proofs.Records.{direct, rate}
 use Rattle.setters.proofs.Lender.{lender}
 use Rattle.setters.proofs.set_rate.Symbol as setter

@@ -1,5 +1,5 @@
 -- `settings::after_set_src_prefix` lends its record to `setters::set_src_prefix`.
-use Rattle.clock.specs.Setters.{withSrc}
+use Rattle.mediarecord.specs.Setters.{withSrc}
 use Rattle.setters.proofs.Plain.{bool}
 use Rattle.setters.proofs.Records.{media-clock-id}
 use Rattle.setters.proofs.Lender.{lender}

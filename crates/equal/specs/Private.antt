@@ -1,0 +1,4 @@
+-- What only private functions and proofs need: it need not be believed.
+pub mod Flat
+pub mod Parts
+pub mod Test

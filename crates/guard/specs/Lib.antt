@@ -1,0 +1,2 @@
+-- What the guard answers, in the terms of the rules.
+pub mod AsAnswer

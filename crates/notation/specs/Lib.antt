@@ -1,4 +1,0 @@
--- The definitions that this crate's contracts cite, and an example of them.
-pub mod Line
-pub mod Parts
-pub mod Examples

@@ -1,0 +1,38 @@
+-- `recordnotes::media::put_direct` meets its contract: each part is put behind the one before it.
+use Rattle.recordnotes.proofs.MediaLaws.{laws}
+use borrow.Author.Needs.{needs}
+use Rattle.recordnotes.proofs.media.put_direct.Statement.{statement}
+use Rattle.recordnotes.proofs.media.put_direct.Tie as tie
+
+slice-aggregate-put-bytes : tie.Need-slice-aggregate-put-bytes
+slice-aggregate-put-bytes c = search needs
+
+put-bytes-requires : tie.Need-put-bytes-requires
+put-bytes-requires c κs = search needs
+
+put-offset-requires : tie.Need-put-offset-requires
+put-offset-requires c κs = search needs
+
+put-byte-requires : tie.Need-put-byte-requires
+put-byte-requires c κs = search needs
+
+put-rate-requires : tie.Need-put-rate-requires
+put-rate-requires c κs = search needs
+
+same-length : tie.Need-same-length
+same-length c = search needs
+
+returns : tie.Need-returns
+returns c = search (needs, laws)
+
+pub put-direct-spec : {M : Type 1} → statement M
+put-direct-spec =
+    tie.close
+    (tie.spec
+    slice-aggregate-put-bytes
+    put-bytes-requires
+    put-offset-requires
+    put-byte-requires
+    put-rate-requires
+    same-length
+    returns)

@@ -1,0 +1,42 @@
+-- `recordnotes::reference::put_opt_domain` meets its contract: a case each.
+use Rattle.recordnotes.proofs.ReferenceLaws.{laws}
+use borrow.Author.Needs.{needs}
+use Rattle.recordnotes.proofs.reference.put_opt_domain.Statement.{statement}
+use Rattle.recordnotes.proofs.reference.put_opt_domain.Tie as tie
+
+enum-told : tie.Need-enum-told
+enum-told c = search needs
+
+put-byte-requires : tie.Need-put-byte-requires
+put-byte-requires c κs = search needs
+
+enum-known-domain : tie.Need-enum-known-domain
+enum-known-domain c = search needs
+
+put-domain-requires : tie.Need-put-domain-requires
+put-domain-requires c κs = search needs
+
+same-length : tie.Need-same-length
+same-length c = search needs
+
+returns : tie.Need-returns
+returns c = search (needs, laws)
+
+same-length-2 : tie.Need-same-length-2
+same-length-2 c = search needs
+
+returns-2 : tie.Need-returns-2
+returns-2 c = search (needs, laws)
+
+pub put-opt-domain-spec : {M : Type 1} → statement M
+put-opt-domain-spec =
+    tie.close
+    (tie.spec
+    enum-told
+    put-byte-requires
+    enum-known-domain
+    put-domain-requires
+    same-length
+    returns
+    same-length-2
+    returns-2)

@@ -1,0 +1,46 @@
+-- `recordnotes::reference::put_port` meets its contract: a case each.
+use Rattle.recordnotes.proofs.ReferenceLaws.{laws}
+use borrow.Author.Needs.{needs}
+use Rattle.recordnotes.proofs.reference.put_port.Statement.{statement}
+use Rattle.recordnotes.proofs.reference.put_port.Tie as tie
+
+enum-told : tie.Need-enum-told
+enum-told c = search needs
+
+put-byte-requires : tie.Need-put-byte-requires
+put-byte-requires c κs = search needs
+
+enum-known-port : tie.Need-enum-known-port
+enum-known-port c = search needs
+
+cast-put-decimal : tie.Need-cast-put-decimal
+cast-put-decimal c = search needs
+
+put-decimal-requires : tie.Need-put-decimal-requires
+put-decimal-requires c κs = search needs
+
+same-length : tie.Need-same-length
+same-length c = search needs
+
+returns : tie.Need-returns
+returns c = search (needs, laws)
+
+same-length-2 : tie.Need-same-length-2
+same-length-2 c = search needs
+
+returns-2 : tie.Need-returns-2
+returns-2 c = search (needs, laws)
+
+pub put-port-spec : {M : Type 1} → statement M
+put-port-spec =
+    tie.close
+    (tie.spec
+    enum-told
+    put-byte-requires
+    enum-known-port
+    cast-put-decimal
+    put-decimal-requires
+    same-length
+    returns
+    same-length-2
+    returns-2)

@@ -1,3 +1,0 @@
-pub mod PartsLaws
-pub mod MediaLaws
-pub mod ReferenceLaws

@@ -1,0 +1,2 @@
+-- The definitions that the public contracts cite are in `text`.
+pub mod Private
