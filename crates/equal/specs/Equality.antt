@@ -1,7 +1,6 @@
 -- What the comparison of clocks owes. `proofs/Equality.antt` proves each of these statements.
 use mathlib.Core.Path.{_≡_}
 use mathlib.Core.Bool.{Bool, true}
-use Rattle.meaning.specs.Meaning.{RefMeaning}
 use Rattle.equal.specs.Alike.{Hosts, hostsAlike, OneClock}
 
 -- a relation that sorts into classes

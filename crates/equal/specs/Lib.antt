@@ -1,4 +1,4 @@
--- What this crate's contracts cite (Decides, Alike), what that owes, examples of it, and the code's own shape (Flat, Parts).
+-- What this crate's contracts cite (Decides, Alike), what that owes and examples of it; the code's own shape is private.
 pub mod Decides
 pub mod Alike
 pub mod Equality

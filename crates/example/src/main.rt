@@ -1,58 +1,61 @@
 // The entry points, called one after another: README.md shows the marked lines.
+use clock::ReferenceClockRead;
+use clock::Wrote;
 use libc::STDOUT_FILENO;
+use lines::Filling;
+use text::Place;
 
 fn show(line: &[u8]) {
     io::write_all(STDOUT_FILENO, line);
     io::write_all(STDOUT_FILENO, b"\n");
 }
 
-fn show_front(room: &[u8], len: usize) {
-    io::write_all(
-        STDOUT_FILENO,
-        text::part(room, text::Place { start: 0, len }),
-    );
+fn show_written(room: &[u8], wrote: Wrote) {
+    if let Wrote::Length(len) = wrote {
+        show(text::part(room, Place { start: 0, len }));
+    }
 }
 
-// What you call: begin
-use clock::ReferenceClockRead;
-use clock::Wrote;
-use lines::Filling;
+fn show_same(same: bool) {
+    if same {
+        show(b"one clock");
+    } else {
+        show(b"two clocks");
+    }
+}
 
-// Reads a value and writes its record back. Refused, it has the number of a rule and a place in the value.
-fn write_back(value: &[u8], room: &mut [u8]) -> usize {
-    let read = refclk::read_reference_clock(value);
-    let ReferenceClockRead::Accepted(clock) = read else {
-        return 0;
+fn show_filled(room: &[u8], filling: Filling) {
+    if let Filling::Filled(len) = filling {
+        io::write_all(STDOUT_FILENO, text::part(room, Place { start: 0, len }));
+    }
+}
+
+fn call_each(value: &[u8], other: &[u8], text: &[u8]) {
+    let mut room = [0u8; 1026];
+    let mut memory = lines::open_line();
+    // What you call: begin
+    // a value is read, its record written back, and two values are compared
+    let ReferenceClockRead::Accepted(clock) = refclk::read_reference_clock(value) else {
+        return;
     };
-    let wrote = writing::write_reference_clock(clock, value, room);
-    let Wrote::Length(len) = wrote else {
-        return 0;
-    };
-    len
+    let wrote = writing::write_reference_clock(clock, value, &mut room);
+    show_written(&room, wrote);
+    show_same(questions::same_clock(value, other));
+    show(questions::governing_clock(other, value));
+    // lines come in fragments of any length, and then a closing call
+    let fed = lines::feed(lines::start(), &mut memory, text, &mut room);
+    let filling = fed.filling;
+    show_filled(&room, filling);
+    let last = lines::close(fed.state, &memory, &mut room);
+    let filling = last.filling;
+    show_filled(&room, filling);
+    // What you call: end
 }
 
 fn main() {
-    let mut room = [0u8; 1026];
-    let len = write_back(b"ptp=IEEE1588-2008:00-1b-c5-ff-fe-00-0a-01:037", &mut room);
-    show_front(&room, len);
-    show(b"");
-    if questions::same_clock(b"ntp=time.example:80", b"ntp=time.example:+080") {
-        show(b"one clock");
-    }
-    show(questions::governing_clock(b"gps", b"ntp=time.example:80"));
-
-    // the reader of lines: fragments of any length, and a closing call
-    let mut memory = lines::open_line();
-    let state = lines::start();
-    let fed = lines::feed(state, &mut memory, b"a=mediaclk:direct=+0\n", &mut room);
-    let filling = fed.filling;
-    if let Filling::Filled(len) = filling {
-        show_front(&room, len);
-    }
-    let last = lines::close(fed.state, &memory, &mut room);
-    let filling = last.filling;
-    if let Filling::Filled(len) = filling {
-        show_front(&room, len);
-    }
+    call_each(
+        b"ntp=time.example:+080",
+        b"ntp=time.example:80",
+        b"a=mediaclk:direct=+0\ns=demo\n",
+    );
 }
-// What you call: end

@@ -4,7 +4,7 @@ use mathlib.Core.Path.{_≡_, refl, _∙_}
 use mathlib.Core.List.{List, [], _∷_, _++_}
 use mathlib.Core.Bool.{Bool, true, false, cond}
 use native.Mathlib.Omega.{arith}
-use lib.Dec.{ltb, eqb}
+use lib.Dec.{eqb}
 use lib.ListN.{length}
 use borrow.Author.Tests.{eq-eqb, ne-eqb, lt-ltb, le-ltb}
 use Rattle.text.specs.Find.{before}
@@ -14,7 +14,7 @@ use Rattle.clock.specs.Refusal.{refusal}
 use Rattle.clock.specs.declared.Refusal.{Refusal}
 use Rattle.clock.specs.declared.OptValue.{OptValue}
 use Rattle.clock.specs.declared.OptValue.the-variants.{NoValue, SomeValue}
-use Rattle.meaning.specs.Answer.{Answer, accepted, refused, refuse, _>>=_, extensionOf}
+use Rattle.meaning.specs.Answer.{accepted, refused, refuse, _>>=_, extensionOf}
 use Rattle.meaning.specs.Meaning.{valueMeans}
 use Rattle.meaning.specs.Text.{valueText}
 use Rattle.room.specs.Put.{Put}

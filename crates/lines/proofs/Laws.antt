@@ -15,7 +15,7 @@ use borrow.Author.Tests.{ne-eqb, le-leb, lt-leb, lt-ltb, le-ltb, leb-true, leb-f
 use Rattle.text.specs.Find.{before}
 use Rattle.text.specs.Word.{endsIn}
 use Rattle.text.proofs.Bools.{by-bool}
-use Rattle.text.proofs.Cuts.{ends-some, before-le}
+use Rattle.text.proofs.Cuts.{before-le}
 use Rattle.text.proofs.Left.{rest, rest-is}
 use Rattle.room.specs.Put.{Put}
 use Rattle.room.proofs.Laws.{put-length, put-front, sets-append, sets-behind}

@@ -179,6 +179,7 @@ fn fits(begun: &[u8], text: &[u8], totals: Totals, room: usize) -> bool
     requires { ⌜ (length (now begun) ≤ 4098) × (length (now text) ≤ 4294967295) ⌝ }
     ensures { λ r. ⌜ r ≡ leb (length (printed (endedFrom (now (begun .entry)) (now (text .entry))))) room ⌝ }
 {
+    // no reply has more than six bytes for each byte of its line and of the line's end
     let most = 6 * (begun.len() + text.len());
     if most <= room {
         return true;

@@ -1,2 +1,2 @@
--- What only private functions and proofs need.
+-- The definitions that the public contract cites are in `meaning`.
 pub mod Private

@@ -1,4 +1,5 @@
-// What the records of both attributes share: a place, and an extension's name and value.
+// What the records of both attributes share: a place, and an extension's name and value. The bound in a contract is the sum of what is put: 41 for a
+// place, two numbers of at most 20 digits and a `+`, 10 for a number of 32 bits, 16 for an EUI-64, and the words and spaces between.
 ghost use Rattle.room.specs.Put.{Put};
 ghost use Rattle.recordnotes.specs.Notation.{placeNote, valueNote, extensionNote};
 use clock::OptValue;

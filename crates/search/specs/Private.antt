@@ -1,2 +1,2 @@
--- What the contracts of private functions cite: it need not be believed.
+-- What only private functions and proofs need: it need not be believed.
 pub mod Passing

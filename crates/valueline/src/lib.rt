@@ -27,6 +27,7 @@ fn ok_line(note: &[u8], text: &[u8], room: &mut [u8]) -> ReplySize
     requires { ⌜ length (now text) ≤ 1026 ⌝ }
     ensures { λ r. ⌜ Gives (okLine (now (note .entry)) (now (text .entry))) (now (room .entry)) r (now (room .exit)) ⌝ }
 {
+    // `ok ` and ` = ` have three bytes each, LF one, and the text two digits for each byte
     let len = note.len() + 2 * text.len() + 7;
     if room.len() < len {
         return ReplySize {
