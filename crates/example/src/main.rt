@@ -30,7 +30,7 @@ fn show_filled(room: &[u8], filling: Filling) {
     }
 }
 
-fn call_each(value: &[u8], other: &[u8], text: &[u8]) {
+fn call_each<'a>(value: &'a [u8], other: &'a [u8], text: &[u8]) {
     let mut room = [0u8; 1026];
     let mut memory = lines::open_line();
     // What you call: begin
