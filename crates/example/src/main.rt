@@ -30,9 +30,8 @@ fn show_filled(room: &[u8], filling: Filling) {
     }
 }
 
-fn call_each<'a>(value: &'a [u8], other: &'a [u8], text: &[u8]) {
+fn call_on_values<'a>(value: &'a [u8], other: &'a [u8]) {
     let mut room = [0u8; 1026];
-    let mut memory = lines::open_line();
     // What you call: begin
     // a value is read, its record written back, and two values are compared
     let ReferenceClockRead::Accepted(clock) = refclk::read_reference_clock(value) else {
@@ -42,6 +41,13 @@ fn call_each<'a>(value: &'a [u8], other: &'a [u8], text: &[u8]) {
     show_written(&room, wrote);
     show_same(questions::same_clock(value, other));
     show(questions::governing_clock(other, value));
+    // What you call: end
+}
+
+fn call_on_lines(text: &[u8]) {
+    let mut room = [0u8; 1026];
+    let mut memory = lines::open_line();
+    // What you call: begin
     // lines come in fragments of any length, and then a closing call
     let fed = lines::feed(lines::start(), &mut memory, text, &mut room);
     let filling = fed.filling;
@@ -53,9 +59,6 @@ fn call_each<'a>(value: &'a [u8], other: &'a [u8], text: &[u8]) {
 }
 
 fn main() {
-    call_each(
-        b"ntp=time.example:+080",
-        b"ntp=time.example:80",
-        b"a=mediaclk:direct=+0\ns=demo\n",
-    );
+    call_on_values(b"ntp=time.example:+080", b"ntp=time.example:80");
+    call_on_lines(b"a=mediaclk:direct=+0\ns=demo\n");
 }
