@@ -96,18 +96,31 @@ fn calls() -> impl Iterator<Item = Arguments> + Clone + Send {
     calls.into_iter()
 }
 
+/// Whether a line says that a record was made.
+fn is_made(line: &str) -> bool {
+    line.starts_with("ok ")
+}
+
 /// Runs the program `made` on the list and compares each line with the module's.
 pub fn compare(program: &[String]) -> Result<bool, String> {
     let mut differences = 0;
+    let mut module = pipe::Lines::default();
     let lines = pipe::ask(program, calls(), Arguments::frame, |a, said| {
         let owed = line(&a);
+        if is_made(&owed) {
+            module.accepted += 1;
+        } else {
+            module.refused += 1;
+        }
         if said != owed {
             differences += 1;
             println!("DIFFERENCE at row {} of docs/ITEMS.md, frame {}\n  {said}\n  the module gives\n  {owed}", a.row, hex(&a.frame()));
         }
     })?;
-    let functions = rows().count();
-    println!("calls {} of {functions} functions = {} made + {} refused", lines.accepted + lines.refused, lines.accepted, lines.refused);
+    println!("functions {}", rows().count());
+    for (side, sums) in [("made", &lines), ("module", &module)] {
+        println!("{side}: calls {} = {} made + {} refused", sums.accepted + sums.refused, sums.accepted, sums.refused);
+    }
     println!("differences {differences}");
     Ok(differences == 0)
 }
@@ -118,7 +131,7 @@ pub fn write(folder: &Path) -> io::Result<()> {
     let mut frames: Vec<u8> = calls.iter().flat_map(Arguments::frame).collect();
     frames.extend(calls[0].frame().split_last().map_or(&[][..], |(_, rest)| rest));
     let lines: Vec<String> = calls.iter().map(line).collect();
-    let accepted = lines.iter().filter(|line| line.starts_with("ok ")).count() as u64;
+    let accepted = lines.iter().filter(|line| is_made(line)).count() as u64;
     let sums = pipe::sums(accepted, lines.len() as u64 - accepted);
     std::fs::write(folder.join("stdin"), frames)?;
     std::fs::write(folder.join("stdout"), lines.join("\n") + "\ncut\n" + &sums + "\n")
