@@ -5,28 +5,13 @@ use crate::leaf;
 use crate::module::{self, Made};
 use crate::notation::{self, hex};
 use crate::record::{Answer, KINDS};
+use crate::side::Side;
 use crate::table::{self, LONGEST};
 use crate::values::Value;
 use std::collections::BTreeMap;
 
 /// So many differences are printed; all are counted.
 const PRINTED: u64 = 20;
-
-#[derive(Default)]
-struct Side {
-    accepted: u64,
-    refused: u64,
-}
-
-impl Side {
-    fn count(&mut self, accepted: bool) {
-        *(if accepted { &mut self.accepted } else { &mut self.refused }) += 1;
-    }
-
-    fn say(&self, name: &str) {
-        println!("{name}: answered {} = {} accepted + {} refused", self.accepted + self.refused, self.accepted, self.refused);
-    }
-}
 
 #[derive(Default)]
 pub struct Check {
@@ -131,7 +116,7 @@ impl Check {
         println!("accepted: {}", list(self.kinds.iter()));
         println!("refused: {}", list(self.numbers.iter()));
         println!("differences {}", self.differences);
-        let answered = |side: &Side, owed| side.accepted + side.refused == owed;
+        let answered = |side: &Side, owed| side.answered() == owed;
         self.differences == 0
             && self.made == self.within + self.others
             && answered(&self.answers, self.made)

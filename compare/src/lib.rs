@@ -23,6 +23,7 @@ pub mod pipe;
 pub mod random;
 pub mod record;
 pub mod seeded;
+pub mod side;
 pub mod stored;
 pub mod table;
 pub mod texts;

@@ -12,6 +12,7 @@ use crate::notation::hex;
 use crate::pipe;
 use crate::random::Random;
 use crate::record::Place;
+use crate::side::Side;
 use std::io;
 use std::path::Path;
 
@@ -104,23 +105,18 @@ fn is_made(line: &str) -> bool {
 /// Runs the program `made` on the list and compares each line with the module's.
 pub fn compare(program: &[String]) -> Result<bool, String> {
     let mut differences = 0;
-    let mut module = pipe::Lines::default();
-    let lines = pipe::ask(program, calls(), Arguments::frame, |a, said| {
+    let mut module = Side::default();
+    let made = pipe::ask(program, calls(), Arguments::frame, |a, said| {
         let owed = line(&a);
-        if is_made(&owed) {
-            module.accepted += 1;
-        } else {
-            module.refused += 1;
-        }
+        module.count(is_made(&owed));
         if said != owed {
             differences += 1;
             println!("DIFFERENCE at row {} of docs/ITEMS.md, frame {}\n  {said}\n  the module gives\n  {owed}", a.row, hex(&a.frame()));
         }
     })?;
     println!("functions {}", rows().count());
-    for (side, sums) in [("made", &lines), ("module", &module)] {
-        println!("{side}: calls {} = {} made + {} refused", sums.accepted + sums.refused, sums.accepted, sums.refused);
-    }
+    made.say("made");
+    module.say("module");
     println!("differences {differences}");
     Ok(differences == 0)
 }

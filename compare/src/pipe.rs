@@ -1,19 +1,13 @@
 //! A program of ours run on frames: one thread writes them, the other reads the lines, so neither waits for the other and nothing piles up.
 
 use crate::notation::hex;
+use crate::side::Side;
 use std::io::{BufRead, BufReader, BufWriter, Read, Write};
 use std::process::{Child, ChildStdout, Command, Stdio};
 use std::thread;
 
-/// How many lines of each sort the program printed.
-#[derive(Default)]
-pub struct Lines {
-    pub accepted: u64,
-    pub refused: u64,
-}
-
 /// Runs the program on the frames of the items and hands on each item with the line that answers it. The last line must have the right sums.
-pub fn ask<T, I>(command: &[String], items: I, frame: impl Fn(&T) -> Vec<u8> + Sync, each: impl FnMut(T, &str)) -> Result<Lines, String>
+pub fn ask<T, I>(command: &[String], items: I, frame: impl Fn(&T) -> Vec<u8> + Sync, each: impl FnMut(T, &str)) -> Result<Side, String>
 where
     I: Iterator<Item = T> + Clone + Send,
 {
@@ -54,25 +48,25 @@ fn read<T>(
     items: impl Iterator<Item = T>,
     frame: impl Fn(&T) -> Vec<u8>,
     mut each: impl FnMut(T, &str),
-) -> Result<Lines, String> {
-    let mut lines = Lines::default();
+) -> Result<Side, String> {
+    let mut said = Side::default();
     for item in items {
-        let before = lines.accepted + lines.refused;
+        let before = said.answered();
         let line = output.line()?.ok_or_else(|| format!("the program ended after {before} lines; the next frame is {}", hex(&frame(&item))))?;
         match line.get(..3) {
-            Some("ok ") => lines.accepted += 1,
-            Some("no ") => lines.refused += 1,
+            Some("ok ") => said.count(true),
+            Some("no ") => said.count(false),
             _ => return Err(format!("after {before} lines the frame {} has no answer but {line:?}", hex(&frame(&item)))),
         }
         each(item, &line);
     }
-    let sums = sums(lines.accepted, lines.refused);
+    let sums = sums(said.accepted, said.refused);
     match output.line()? {
         Some(line) if line == sums => (),
         other => return Err(format!("the last line is {other:?} and not {sums:?}")),
     }
     match output.line()? {
-        None => Ok(lines),
+        None => Ok(said),
         Some(more) => Err(format!("behind the last line stands {more:?}")),
     }
 }
