@@ -1,3 +1,5 @@
 pub mod Decides
 pub mod Equality
 pub mod Laws
+pub mod Shared
+pub mod PrintLaws

@@ -4,6 +4,7 @@ use mathlib.Core.Path.{refl}
 use mathlib.Core.List.{List, [], _∷_}
 use mathlib.Core.Bool.{true, false}
 use mathlib.Core.Option.{none, some}
+use lib.Dec.{eqb}
 use Rattle.text.specs.Example.{_gives_, Each}
 use Rattle.text.specs.Word.{word, same}
 use Rattle.text.specs.Place.{place, bytesAt}
@@ -13,6 +14,7 @@ use Rattle.clock.specs.declared.OptPort.the-variants.{NoPort}
 use Rattle.clock.specs.declared.NtpServerAddr.the-variants.{HostPort}
 use Rattle.clock.specs.declared.ReferenceClock.the-variants.{Ntp}
 use Rattle.meaning.specs.Meaning.{RefMeaning, refMeaning, ntpHost, ptp, ownVersion, ieee1588-2008, traceable, gmid, name, number, gps, gal, refExt}
+use Rattle.equal.specs.Fingerprint.{mixed, mixedText, mixedNumbers, columns, hostPrint, fingerprint}
 use Rattle.equal.specs.Private.Flat.{clockSays, sameNumbers, sameBehind, alikeFlat}
 use Rattle.equal.specs.Private.Test.{alike}
 
@@ -51,3 +53,18 @@ places : Each (λ (p : (List ℕ × Place) × (List ℕ × Place)). alike same (
     ∷ [])
 unfolding refMeaning bytesAt alike alikeFlat sameBehind sameNumbers clockSays same
 places = refl
+
+-- respelled, a record keeps its fingerprint; one that differs in any part has another
+prints : Each (λ (p : RefMeaning × RefMeaning). eqb (fingerprint hostPrint (p .0)) (fingerprint hostPrint (p .1))) (
+    (hostAt (word "ntp=h", place 4 1), hostAt (word "h", place 0 1)) gives true
+    ∷ (ntpHost (word "h") none, ntpHost (word "g") none) gives false
+    ∷ (ntpHost (word "h") none, ntpHost (word "h") (some 0)) gives false
+    ∷ (ptp ieee1588-2008 (gmid 7 none), ptp ieee1588-2008 (gmid 8 none)) gives false
+    ∷ (ptp ieee1588-2008 (gmid 7 none), ptp ieee1588-2008 (gmid 4294967303 none)) gives false
+    ∷ (ptp ieee1588-2008 (gmid 7 none), ptp ieee1588-2008 (gmid 7 (some (number 0)))) gives false
+    ∷ (ptp ieee1588-2008 (gmid 7 (some (number 5))), ptp ieee1588-2008 (gmid 7 (some (name (word "5"))))) gives false
+    ∷ (refExt (word "x") none, refExt (word "x") (some [])) gives false
+    ∷ (refExt (word "xy") (some (word "z")), refExt (word "x") (some (word "yz"))) gives false
+    ∷ [])
+unfolding refMeaning bytesAt fingerprint hostPrint columns mixedNumbers mixedText mixed
+prints = refl

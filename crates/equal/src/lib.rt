@@ -1,6 +1,9 @@
-// Whether two records are equal, each over the value that it points into. A place that reaches outside its value has the bytes that are there.
+// Whether two records are equal, each over the value that it points into, and a number that records of one clock share. A place that reaches outside
+// its value has the bytes that are there.
 mod parts;
+mod prints;
 
+pub use prints::fingerprint;
 ghost use mathlib.Core.Path.{_≡_};
 ghost use mathlib.Core.List.{[]};
 ghost use Rattle.text.specs.Place.{bytesAt};
