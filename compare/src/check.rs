@@ -11,7 +11,7 @@ use crate::values::Value;
 use std::collections::BTreeMap;
 
 /// So many differences are printed; all are counted.
-const PRINTED: u64 = 20;
+pub const PRINTED: u64 = 20;
 
 #[derive(Default)]
 pub struct Check {
@@ -135,6 +135,6 @@ impl Check {
     }
 }
 
-fn list<'a, K: std::fmt::Display + 'a>(counts: impl Iterator<Item = (&'a K, &'a u64)>) -> String {
+pub fn list<'a, K: std::fmt::Display + 'a>(counts: impl Iterator<Item = (&'a K, &'a u64)>) -> String {
     counts.map(|(name, count)| format!("{name} {count}")).collect::<Vec<_>>().join(", ")
 }

@@ -11,7 +11,7 @@ pub fn compare(program: &[String]) -> Result<bool, String> {
     let mut equal = true;
     for end in 0..=input.len() {
         let expected = lines(&values, end);
-        let said = ask_once(program, &input[..end])?;
+        let said = String::from_utf8_lossy(&ask_once(program, &input[..end])?).into_owned();
         if said != expected {
             println!("DIFFERENCE at the first {end} bytes of three frames\n  {said:?}\n  and not {expected:?}");
             equal = false;

@@ -11,6 +11,7 @@ pub mod builders;
 
 pub mod addresses;
 pub mod calls;
+pub mod census;
 pub mod check;
 pub mod cuts;
 pub mod leaf;

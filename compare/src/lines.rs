@@ -47,7 +47,7 @@ pub fn write_past_limit(text: &mut impl Write) -> io::Result<()> {
 }
 
 #[rustfmt::skip]
-const OTHERS: [&str; 20] = [
+pub const OTHERS: [&str; 20] = [
     "", "v=0", "s=demo", "a=ts-refclk", "a=ts-refclk ntp=h", "A=ts-refclk:gps", " a=ts-refclk:gps", "a=mediaclk", "a=mediaclk=sender",
     "a=ts-refclk:", "a=mediaclk:", "m=audio 5004 RTP/AVP 97", "\r", "\0", "a", "a=", "a=t", "a=m", "a=tool:x", "a=mid:1",
 ];

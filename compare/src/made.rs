@@ -107,7 +107,7 @@ pub fn compare(program: &[String]) -> Result<bool, String> {
     let mut differences = 0;
     let mut module = Side::default();
     let made = pipe::ask(program, calls(), Arguments::frame, |a, said| {
-        let owed = line(&a);
+        let owed = line(a);
         module.count(is_made(&owed));
         if said != owed {
             differences += 1;

@@ -1,5 +1,6 @@
 //! `compare TASK .. -- PROGRAM ..`: the tasks of `compare/run` and `compare/store`.
 
+use compare::census::{self, planted::Planted};
 use compare::check::Check;
 use compare::record::Attribute;
 use compare::values::{Value, Values};
@@ -9,7 +10,8 @@ use std::path::Path;
 use std::process::ExitCode;
 
 const USAGE: &str = "usage: compare values N SEED -- PROGRAM .. | addresses N SEED -- PROGRAM .. | utf8 3 -- PROGRAM .. | utf8 LEAD -- PROGRAM ..
-       compare made -- PROGRAM .. | lines N SEED | limit | store FOLDER | store-made FOLDER | answer | answer-made";
+       compare made -- PROGRAM .. | census N SEED -- PROGRAM .. | censustext N SEED -- PROGRAM ..
+       compare lines N SEED | limit | store FOLDER | store-made FOLDER | answer | answer-made | answer-census [FAULT] | answer-censustext";
 
 fn main() -> ExitCode {
     let arguments: Vec<String> = std::env::args().skip(1).collect();
@@ -41,6 +43,8 @@ fn run(task: &[&str], program: &[String]) -> Result<bool, String> {
         ["lines", n, seed] => done(lines::write(number(n)?, number(seed)?, &mut BufWriter::new(io::stdout().lock()))),
         ["limit"] => done(lines::write_past_limit(&mut BufWriter::new(io::stdout().lock()))),
         ["made"] => made::compare(program),
+        ["census", n, seed] => census::sums::compare(number(n)?, number(seed)?, program),
+        ["censustext", n, seed] => census::session::compare(number(n)?, number(seed)?, program),
         ["store", folder] => done(stored::write(Path::new(folder))),
         ["store-made", folder] => done(made::write(Path::new(folder))),
         ["answer"] => done(pipe::stand_in(|letter, value| {
@@ -48,6 +52,11 @@ fn run(task: &[&str], program: &[String]) -> Result<bool, String> {
             table::answer(attribute, value).to_string()
         })),
         ["answer-made"] => done(pipe::stand_in(made::answer)),
+        ["answer-census", fault @ ..] => {
+            let mut planted = Planted::new(fault.first().unwrap_or(&""))?;
+            done(census::frames::stand_in(|call| planted.line(call)))
+        }
+        ["answer-censustext"] => done(census::session::stand_in()),
         _ => Err(USAGE.to_string()),
     }
 }
@@ -56,7 +65,7 @@ fn values(values: Values, program: &[String]) -> Result<bool, String> {
     let (lists, shorts, seeded) = values.counts();
     println!("values: {lists} of the lists, {shorts} short strings behind each prefix, {seeded} from the seed");
     let mut check = Check::default();
-    pipe::ask(program, values, Value::frame, |value, line| check.one(&value, line))?;
+    pipe::ask(program, values, Value::frame, |value, line| check.one(value, line))?;
     let equal = check.report();
     Ok(cuts::compare(program)? & check.has_all() & equal)
 }
@@ -64,8 +73,8 @@ fn values(values: Values, program: &[String]) -> Result<bool, String> {
 fn each(values: impl Iterator<Item = Value> + Clone + Send, program: &[String], more: impl Fn(&mut Check, &Value, &str)) -> Result<bool, String> {
     let mut check = Check::default();
     pipe::ask(program, values, Value::frame, |value, line| {
-        check.one(&value, line);
-        more(&mut check, &value, line);
+        check.one(value, line);
+        more(&mut check, value, line);
     })?;
     Ok(check.report())
 }

@@ -7,7 +7,31 @@ use std::process::{Child, ChildStdout, Command, Stdio};
 use std::thread;
 
 /// Runs the program on the frames of the items and hands on each item with the line that answers it. The last line must have the right sums.
-pub fn ask<T, I>(command: &[String], items: I, frame: impl Fn(&T) -> Vec<u8> + Sync, each: impl FnMut(T, &str)) -> Result<Side, String>
+pub fn ask<T, I>(command: &[String], items: I, frame: impl Fn(&T) -> Vec<u8> + Sync, mut each: impl FnMut(&T, &str)) -> Result<Side, String>
+where
+    I: Iterator<Item = T> + Clone + Send,
+{
+    let mut said = Side::default();
+    let last = ask_lines(command, items, frame, |item, line| {
+        match line.get(..3) {
+            Some("ok ") => said.count(true),
+            Some("no ") => said.count(false),
+            _ => return false,
+        }
+        each(item, line);
+        true
+    })?;
+    ends_with(&last, &sums(said.accepted, said.refused))?;
+    Ok(said)
+}
+
+/// The same for answers of any kind: `each` says whether a line is one. Gives the last line, which answers no item.
+pub fn ask_lines<T, I>(
+    command: &[String],
+    items: I,
+    frame: impl Fn(&T) -> Vec<u8> + Sync,
+    each: impl FnMut(&T, &str) -> bool,
+) -> Result<String, String>
 where
     I: Iterator<Item = T> + Clone + Send,
 {
@@ -15,7 +39,7 @@ where
     let input = child.stdin.take().ok_or("no standard input")?;
     let output = Output(BufReader::with_capacity(1 << 16, child.stdout.take().ok_or("no standard output")?));
     let to_write = items.clone();
-    let lines = thread::scope(|scope| {
+    let last = thread::scope(|scope| {
         scope.spawn(|| {
             let mut input = BufWriter::with_capacity(1 << 16, input);
             for item in to_write {
@@ -30,9 +54,17 @@ where
     })?;
     let status = child.wait().map_err(|error| error.to_string())?;
     if status.success() {
-        Ok(lines)
+        Ok(last)
     } else {
         Err(format!("the program ended with {status}"))
+    }
+}
+
+pub fn ends_with(last: &str, owed: &str) -> Result<(), String> {
+    if last == owed {
+        Ok(())
+    } else {
+        Err(format!("the last line is {last:?} and not {owed:?}"))
     }
 }
 
@@ -47,37 +79,31 @@ fn read<T>(
     mut output: Output<ChildStdout>,
     items: impl Iterator<Item = T>,
     frame: impl Fn(&T) -> Vec<u8>,
-    mut each: impl FnMut(T, &str),
-) -> Result<Side, String> {
-    let mut said = Side::default();
-    for item in items {
-        let before = said.answered();
+    mut each: impl FnMut(&T, &str) -> bool,
+) -> Result<String, String> {
+    for (before, item) in items.enumerate() {
         let line = output.line()?.ok_or_else(|| format!("the program ended after {before} lines; the next frame is {}", hex(&frame(&item))))?;
-        match line.get(..3) {
-            Some("ok ") => said.count(true),
-            Some("no ") => said.count(false),
-            _ => return Err(format!("after {before} lines the frame {} has no answer but {line:?}", hex(&frame(&item)))),
+        if !each(&item, &line) {
+            return Err(format!("after {before} lines the frame {} has no answer but {line:?}", hex(&frame(&item))));
         }
-        each(item, &line);
     }
-    let sums = sums(said.accepted, said.refused);
+    let last = output.line()?.ok_or("the last line is missing")?;
     match output.line()? {
-        Some(line) if line == sums => (),
-        other => return Err(format!("the last line is {other:?} and not {sums:?}")),
-    }
-    match output.line()? {
-        None => Ok(said),
+        None => Ok(last),
         Some(more) => Err(format!("behind the last line stands {more:?}")),
     }
 }
 
-/// All that the program prints on the input, which is short.
-pub fn ask_once(command: &[String], input: &[u8]) -> Result<String, String> {
+/// All that the program prints on the input.
+pub fn ask_once(command: &[String], input: &[u8]) -> Result<Vec<u8>, String> {
     let mut child = start(command)?;
-    let said = |error: std::io::Error| error.to_string();
-    child.stdin.take().ok_or("no standard input")?.write_all(input).map_err(said)?;
-    let output = child.wait_with_output().map_err(said)?;
-    Ok(String::from_utf8_lossy(&output.stdout).into_owned())
+    let mut to_write = child.stdin.take().ok_or("no standard input")?;
+    let output = thread::scope(|scope| {
+        // a program that ends early is noticed by what it printed
+        scope.spawn(move || drop(to_write.write_all(input)));
+        child.wait_with_output()
+    });
+    output.map(|output| output.stdout).map_err(|error| error.to_string())
 }
 
 /// The last line that a program prints.
