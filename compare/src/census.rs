@@ -10,6 +10,7 @@ pub mod pool;
 pub mod runs;
 pub mod session;
 pub mod spelled;
+pub mod stored;
 pub mod sums;
 
 /// Lent memory below this is refused.

@@ -11,7 +11,8 @@ use std::process::ExitCode;
 
 const USAGE: &str = "usage: compare values N SEED -- PROGRAM .. | addresses N SEED -- PROGRAM .. | utf8 3 -- PROGRAM .. | utf8 LEAD -- PROGRAM ..
        compare made -- PROGRAM .. | census N SEED -- PROGRAM .. | censustext N SEED -- PROGRAM ..
-       compare lines N SEED | limit | store FOLDER | store-made FOLDER | answer | answer-made | answer-census [FAULT] | answer-censustext";
+       compare lines N SEED | limit | store FOLDER | store-made FOLDER | store-censuscalls FOLDER | store-census FOLDER
+       compare answer | answer-made | answer-census [FAULT] | answer-censustext";
 
 fn main() -> ExitCode {
     let arguments: Vec<String> = std::env::args().skip(1).collect();
@@ -47,6 +48,8 @@ fn run(task: &[&str], program: &[String]) -> Result<bool, String> {
         ["censustext", n, seed] => census::session::compare(number(n)?, number(seed)?, program),
         ["store", folder] => done(stored::write(Path::new(folder))),
         ["store-made", folder] => done(made::write(Path::new(folder))),
+        ["store-censuscalls", folder] => done(census::stored::write_calls(Path::new(folder))),
+        ["store-census", folder] => done(census::stored::write_text(Path::new(folder))),
         ["answer"] => done(pipe::stand_in(|letter, value| {
             let attribute = if letter == b'r' { Attribute::TsRefclk } else { Attribute::Mediaclk };
             table::answer(attribute, value).to_string()

@@ -122,7 +122,7 @@ fn totals(output: &str) -> Option<[u64; 6]> {
 }
 
 /// A text of few clocks, or of about as many as there are entries, each at least once.
-fn text(random: &mut Random, sources: &Sources, has_many: bool) -> Vec<u8> {
+pub fn text(random: &mut Random, sources: &Sources, has_many: bool) -> Vec<u8> {
     let size = if has_many { 254 + random.below(47) } else { 1 + random.below(12) };
     let pool = Pool::new(random, sources, size);
     let mut text = Vec::new();

@@ -54,22 +54,19 @@ impl Check {
         self.differences == 0 && is_right(&self.ours) && is_right(&self.list)
     }
 
-    /// True where every kind of answer was given, and entries were freed and taken again; prints what was not.
+    /// True where every kind of answer was given; prints which were not.
     fn has_all(&self) -> bool {
-        let missing: Vec<&str> = KINDS.into_iter().filter(|kind| !self.ours.kinds.contains_key(*kind)).collect();
+        let missing = self.ours.missing();
         if !missing.is_empty() {
             println!("none of: {missing:?}");
         }
-        if self.ours.filled_again == 0 {
-            println!("no census was full, then had a free entry, and was full again");
-        }
-        missing.is_empty() && self.ours.filled_again > 0
+        missing.is_empty()
     }
 }
 
 /// What one side answered, and what its totals must add up to.
 #[derive(Default)]
-struct Answers {
+pub struct Answers {
     kinds: BTreeMap<String, u64>,
     /// Calls answered "counted" less those answered "withdrawn", since the census was fresh.
     balance: i64,
@@ -90,7 +87,7 @@ enum Entries {
 
 impl Answers {
     /// Takes in a line; false where it is no answer.
-    fn take(&mut self, line: &str) -> bool {
+    pub fn take(&mut self, line: &str) -> bool {
         let words: Vec<&str> = line.split(' ').collect();
         let kind = match words[..] {
             ["started"] => {
@@ -138,6 +135,12 @@ impl Answers {
             }
             _ => (),
         }
+    }
+
+    /// The kinds of answer that were not given, and whether no census was full again.
+    pub fn missing(&self) -> Vec<&'static str> {
+        let kinds = KINDS.into_iter().filter(|kind| !self.kinds.contains_key(*kind));
+        kinds.chain((self.filled_again == 0).then_some("full again")).collect()
     }
 
     fn answered(&self) -> u64 {
