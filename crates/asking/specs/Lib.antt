@@ -1,0 +1,2 @@
+-- What the questions answer.
+pub mod Asking

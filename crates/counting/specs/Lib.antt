@@ -1,0 +1,3 @@
+-- What counting answers and leaves.
+pub mod Counting
+pub mod Private

@@ -1,0 +1,3 @@
+-- The state of a census.
+pub mod State
+pub mod Outcome

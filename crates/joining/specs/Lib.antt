@@ -1,0 +1,3 @@
+-- What joining answers and leaves.
+pub mod Joining
+pub mod Private

@@ -1,0 +1,2 @@
+-- What only proofs need: it need not be believed.
+pub mod Keeps

@@ -1,0 +1,3 @@
+-- The rule by which values name clocks, and the domain number of a clock.
+pub mod Domain
+pub mod ClockRule

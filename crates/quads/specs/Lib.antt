@@ -1,0 +1,3 @@
+-- Numbers of four bytes.
+pub mod Quad
+pub mod Private

@@ -1,0 +1,3 @@
+pub mod Laws
+pub mod Slots
+pub mod Change

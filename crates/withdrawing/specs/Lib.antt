@@ -1,0 +1,3 @@
+-- What withdrawing answers and leaves.
+pub mod Withdrawing
+pub mod Private
