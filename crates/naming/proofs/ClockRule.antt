@@ -77,7 +77,7 @@ one-meant : (hosts : Hosts) (m n : RefMeaning) → OneClock hosts m n → clockM
 one-meant hosts m n (equal e) = ap clockMeant e
 one-meant hosts m n (servers h g port e a b) = rw (a, b) refl
 
-accepted-domain : (v : Value) (c : ReferenceClock) → readReferenceClock v ≡ Accepted c → domainOf v ≡ domainIn c
+pub accepted-domain : (v : Value) (c : ReferenceClock) → readReferenceClock v ≡ Accepted c → domainOf v ≡ domainIn c
 unfolding domainOf
 accepted-domain v c e = simp e
 

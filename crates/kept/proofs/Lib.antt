@@ -1,0 +1,7 @@
+pub mod Domains
+pub mod Slots
+pub mod Found
+pub mod Counting
+pub mod Withdrawing
+pub mod Joining
+pub mod Kept
