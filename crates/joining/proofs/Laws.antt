@@ -41,12 +41,15 @@ module _ (c : Census) (m : List ℕ) (i : ℕ) (from : ReferenceClock) (j : ℕ)
   join-same e r f = let q : joinSlots c m i from j into ≡ leaves c m = simp (eq-eqb i j e) in does-leave q f refl
 
   pub join-done : (i ≡ j → ⊥) → (n : ℕ) (m₂ : List ℕ) → Moves m i j n m₂ → (d e : ℕ) → d ≡ orNone (domainIn from) → e ≡ orNone (domainIn into)
-      → (a b : Census) → a ≡ census (c .used) (c .total) (c .refused) (less d n (c .domains)) → b ≡ census (a .used) (a .total) (a .refused) (more e n (a .domains))
+      → (a b : Census) → a ≡ census (c .used) (c .total) (c .refused) (less d n (c .domains))
+      → b ≡ census (a .used) (a .total) (a .refused) (more e n (a .domains))
       → (r : Called) → r ≡ doneWith b → Does (joinSlots c m i from j into) c m r m₂
   unfolding joinSlots
   join-done x n m₂ w d e ed ee a b ea eb r er =
       let q : joinSlots c m i from j into
-      ≡ leaves (census (c .used) (c .total) (c .refused) (more (orNone (domainIn into)) (streamsAt m i) (less (orNone (domainIn from)) (streamsAt m i) (c .domains))))
+      ≡ leaves
+      (census (c .used) (c .total) (c .refused)
+      (more (orNone (domainIn into)) (streamsAt m i) (less (orNone (domainIn from)) (streamsAt m i) (c .domains))))
       (joinedMemory m i j) =
       simp (ne-eqb i j x) in
       does-leave q (er ∙ ap doneWith (eb ∙ cc (ea, ed, ee, w .number))) (w .memory)

@@ -110,12 +110,15 @@ module _ (R : Rule) (C : ClockRule R) (c : Census) (m : List ℕ) (l : Streams) 
         abbrev j : ℕ
         j = freeSlot m (usedIn c)
 
+        no-room : 255 ≤ j → 255 ≤ clocksIn R l
+        no-room g = room-no R (G R C) 255 (view c m) l S j (free R C c m l K) g
+
         count-full : 255 ≤ j → Right R C (countOutcome c m v i) c m (count v) l
         unfolding countOutcome countClock countNew reasons firstOf
         count-full g =
             right-refuse R C ClocksFull (simp (t, f, reads, le-ltb i (usedIn c) h, le-leb 255 j g))
             (long-answer R C m (count v) l t
-            ∙ simp (lt-leb 4294967295 (length l) room, accepted, none-yet, le-ltb (clocksIn R l) 255 (room-no R (G R C) 255 (view c m) l S j (free R C c m l K) g)))
+            ∙ simp (lt-leb 4294967295 (length l) room, accepted, none-yet, le-ltb (clocksIn R l) 255 (no-room g)))
             K
 
         count-new : j < 255 → Right R C (countOutcome c m v i) c m (count v) l

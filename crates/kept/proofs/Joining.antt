@@ -136,8 +136,10 @@ module _ (R : Rule) (C : ClockRule R) (c : Census) (m : List ℕ) (l : Streams) 
             → getD (more (orNone (domainIn into)) n (less (orNone (domainIn from)) n (c .domains))) d 0
             ≡ getD (c .domains) d 0 - cond (hasDomain R d v) n 0 + cond (hasDomain R d w) n 0
         domain-moved d h =
-            let ev : cond (eqb (orNone (domainIn from)) d) n 0 ≡ cond (hasDomain R d v) n 0 = ap (λ (x : Bool). cond x n 0) (domain-is R C c m l K v from reads d h) in
-            let ew : cond (eqb (orNone (domainIn into)) d) n 0 ≡ cond (hasDomain R d w) n 0 = ap (λ (x : Bool). cond x n 0) (domain-is R C c m l K w into reads′ d h) in
+            let ev : cond (eqb (orNone (domainIn from)) d) n 0 ≡ cond (hasDomain R d v) n 0 =
+            ap (λ (x : Bool). cond x n 0) (domain-is R C c m l K v from reads d h) in
+            let ew : cond (eqb (orNone (domainIn into)) d) n 0 ≡ cond (hasDomain R d w) n 0 =
+            ap (λ (x : Bool). cond x n 0) (domain-is R C c m l K w into reads′ d h) in
             let z : length (less (orNone (domainIn from)) n (c .domains)) ≡ 128 = less-size (orNone (domainIn from)) n (c .domains) ∙ K .each in
             let e₁ = less-count (orNone (domainIn from)) n d (c .domains) (K .each) h in
             let bound : getD (less (orNone (domainIn from)) n (c .domains)) d 0 + n ≤ 4294967295 =

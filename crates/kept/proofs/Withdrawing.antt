@@ -7,7 +7,7 @@ use native.Mathlib.Omega.{arith}
 use lib.Dec.{eqb, ltb}
 use lib.ListN.{length, getD}
 use lib.Seq.{sets}
-use borrow.Author.Tests.{eqb-true, eqb-false, lt-ltb, le-ltb, ltb-true, ltb-false}
+use borrow.Author.Tests.{eqb-true, lt-ltb, le-ltb, ltb-true, ltb-false}
 use Rattle.text.proofs.Bools.{by-bool}
 use Rattle.clock.specs.declared.Refusal.{Refusal}
 use Rattle.clock.specs.declared.ReferenceClock.{ReferenceClock}
@@ -23,6 +23,7 @@ use Rattle.streams.specs.declared.Uncounted.the-variants.{NoMemory, NoStream}
 use Rattle.streams.specs.declared.Verdict.the-variants.{Done, Refused}
 use Rattle.streams.specs.Private.Book.{Stands}
 use Rattle.streams.proofs.Lists.{number-most, number-alike, without-alike, length-without}
+use Rattle.streams.proofs.Sums.{over-zero}
 use Rattle.streams.proofs.Book.{Altered, named-streams, named-count, unnamed-count, withdraws, withdraws-refused}
 use Rattle.naming.specs.Domain.{orNone, domainIn}
 use Rattle.naming.specs.ClockRule.{isAccepted, ClockRule}
@@ -62,7 +63,7 @@ module _ (R : Rule) (C : ClockRule R) (c : Census) (m : List ℕ) (l : Streams) 
         by-bool (eqb (c .refused) 0)
         (λ z. let y = eqb-true (c .refused) 0 z in right-refuse R C NoStream (simp (t, e, z)) (none-answer (omega (arith, S .refused))) K)
         (λ z.
-        let y : 0 < c .refused = by-bool (ltb 0 (c .refused)) (λ p. ltb-true 0 (c .refused) p) (λ p. absurd (eqb-false (c .refused) 0 z (let r = ltb-false 0 (c .refused) p in omega arith))) in
+        let y : 0 < c .refused = over-zero (c .refused) z in
         let some : 0 < refusedIn R l = omega (arith, S .refused) in
         let c′ = census (c .used) (c .total - 1) (c .refused - 1) (c .domains) in
         right-leave R C c′ m (simp (t, e, z)) (some-answer (omega arith))
@@ -118,7 +119,8 @@ module _ (R : Rule) (C : ClockRule R) (c : Census) (m : List ℕ) (l : Streams) 
           (λ q. withdraw-one (ltb-true i (usedIn c) q))
           (λ q. withdraw-none (ltb-false i (usedIn c) q))
 
-    by-reading : (i : ℕ) → SlotFor m v (usedIn c) i → (x : ReferenceClockRead) → readReferenceClock v ≡ x → Right R C (withdrawOutcome c m v i) c m (withdraw v) l
+    by-reading : (i : ℕ) → SlotFor m v (usedIn c) i → (x : ReferenceClockRead) → readReferenceClock v ≡ x
+        → Right R C (withdrawOutcome c m v i) c m (withdraw v) l
     by-reading i s (read.Accepted k) e = withdraw-accepted k e i (s .named k e)
     by-reading i s (read.Refused q) e = withdraw-refused q e i
 

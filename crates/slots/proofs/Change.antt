@@ -97,7 +97,8 @@ module _ (m : List ℕ) (i n p : ℕ) (v : List ℕ) (inside : i * 1036 + 1036 �
   unfolding streamsAt
   new-streams small =
       let z : i * 1036 ≡ i * 1036 + 0 = omega arith in
-      ap (λ (t : List ℕ). numberAt (sets m (i * 1036) t) (i * 1036)) bytes-first ∙ ap (numberAt (sets m (i * 1036) ([] ++ (quad n ++ (quad p ++ (quad (length v) ++ v)))))) z
+      ap (λ (t : List ℕ). numberAt (sets m (i * 1036) t) (i * 1036)) bytes-first
+      ∙ ap (numberAt (sets m (i * 1036) ([] ++ (quad n ++ (quad p ++ (quad (length v) ++ v)))))) z
       ∙ number-inside 0 n (i * 1036) m [] (quad p ++ (quad (length v) ++ v)) (within _ bytes-first) refl small
 
   pub new-print : p < 4294967296 → printAt stored i ≡ p
@@ -109,7 +110,8 @@ module _ (m : List ℕ) (i n p : ℕ) (v : List ℕ) (inside : i * 1036 + 1036 �
   new-length : numberAt stored (i * 1036 + 8) ≡ length v
   new-length =
       ap (λ (t : List ℕ). numberAt (sets m (i * 1036) t) (i * 1036 + 8)) bytes-third
-      ∙ number-inside 8 (length v) (i * 1036) m (quad n ++ quad p) v (within _ bytes-third) (length-append (quad n) (quad p) ∙ two (quad-length n) (quad-length p)) (omega arith)
+      ∙ number-inside 8 (length v) (i * 1036) m (quad n ++ quad p) v (within _ bytes-third)
+      (length-append (quad n) (quad p) ∙ two (quad-length n) (quad-length p)) (omega arith)
     where
       two : {a b : ℕ} → a ≡ 4 → b ≡ 4 → a + b ≡ 8
       two e f = omega arith

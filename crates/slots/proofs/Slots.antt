@@ -44,10 +44,12 @@ module _ (m : List ℕ) (k : RefMeaning) where
   test-right i e =
       let p = and-right (not (isFree m i)) _ e in
       let live = not-true (isFree m i) (and-left (not (isFree m i)) _ e) in
-      go (readReferenceClock (valueAt m i)) refl live (eqb-true (printAt m i) (fingerprint hostPrint k) (and-left (eqb (printAt m i) (fingerprint hostPrint k)) _ p))
+      go (readReferenceClock (valueAt m i)) refl live
+      (eqb-true (printAt m i) (fingerprint hostPrint k) (and-left (eqb (printAt m i) (fingerprint hostPrint k)) _ p))
       (and-right (eqb (printAt m i) (fingerprint hostPrint k)) _ p)
     where
-      go : (x : ReferenceClockRead) → readReferenceClock (valueAt m i) ≡ x → isFree m i ≡ false → printAt m i ≡ fingerprint hostPrint k → reads x i ≡ true → OfClock m k i
+      go : (x : ReferenceClockRead) → readReferenceClock (valueAt m i) ≡ x → isFree m i ≡ false → printAt m i ≡ fingerprint hostPrint k
+          → reads x i ≡ true → OfClock m k i
       go (Refused r) ex f q t = clash (cc)
       go (Accepted d) ex f q t =
           record {

@@ -13,13 +13,14 @@ use Rattle.streams.specs.Rule.{Value, Rule, Lawful, hasDomain, is}
 use Rattle.streams.specs.Streams.{Streams, bit, numberOf, without, isRefused, ofClock, refusedIn, inDomain, clocksIn, like, moved}
 use Rattle.streams.specs.Sums.{sum, first}
 use Rattle.streams.specs.Private.Book.{Book, isFree, names, tallied, clockSum, live, Respects, Stands}
-use Rattle.streams.proofs.Lists.{bit-most, number-alike, number-within, number-none, number-split, number-without, length-without, length-map, second, same-alike, same-turned, clock-alike, number-moved}
+use Rattle.streams.proofs.Lists.{bit-most, number-within, number-split, number-without, number-moved, length-without, length-map}
+use Rattle.streams.proofs.Lists.{second, same-alike, same-turned}
 use Rattle.streams.proofs.Clocks.{live-clocks}
-use Rattle.streams.proofs.Sums.{sum-same, sum-change, sum-zero, sum-one, sum-most, sum-less, sum-all, sum-term, First, first-tells}
+use Rattle.streams.proofs.Sums.{over-zero, sum-same, sum-change, sum-zero, sum-one, sum-most, sum-less, sum-all, sum-term, First, first-tells}
 
 -- an entry that is not free has streams
 pub not-free : (b : Book) (i : ℕ) → isFree b i ≡ false → 0 < b .streams i
-not-free b i e = by-bool (ltb 0 (b .streams i)) (λ t. ltb-true 0 (b .streams i) t) (λ f. absurd (eqb-false (b .streams i) 0 e (let h = ltb-false 0 (b .streams i) f in omega arith)))
+not-free b i e = over-zero (b .streams i) e
 
 pub has-streams : (b : Book) (i : ℕ) → 0 < b .streams i → isFree b i ≡ false
 has-streams b i h = ne-eqb (b .streams i) 0 (λ e. omega arith)
@@ -35,12 +36,14 @@ pub record Altered (b b′ : Book) (i : ℕ) (w : Value) (n : ℕ) : Type 0 wher
 module _ (b b′ : Book) (u : b′ .used ≡ b .used) (i : ℕ) (h : i < b .used) (w : Value) (n : ℕ) (A : Altered b b′ i w n) where
   pub tally-changed : (p : Value → Bool) → tallied b′ p + cond (p (b .value i)) (b .streams i) 0 ≡ tallied b p + cond (p w) n 0
   tally-changed p =
-      let k : sum (b .used) (λ j. cond (p (b′ .value j)) (b′ .streams j) 0) + cond (p (b .value i)) (b .streams i) 0 ≡ tallied b p + cond (p (b′ .value i)) (b′ .streams i) 0 =
+      let k : sum (b .used) (λ j. cond (p (b′ .value j)) (b′ .streams j) 0) + cond (p (b .value i)) (b .streams i) 0
+      ≡ tallied b p + cond (p (b′ .value i)) (b′ .streams i) 0 =
       sum-change (b .used) (λ j. cond (p (b .value j)) (b .streams j) 0) (λ j. cond (p (b′ .value j)) (b′ .streams j) 0) i h
       (λ j m x. ap (λ (y : Value). cond (p y) (b′ .streams j) 0) (A .other-value j m x) ∙ ap (λ (y : ℕ). cond (p (b .value j)) y 0) (A .other-streams j m x)) in
       let r : cond (p (b′ .value i)) (b′ .streams i) 0 ≡ cond (p w) n 0 =
       ap (λ (y : Value). cond (p y) (b′ .streams i) 0) (A .value) ∙ ap (λ (y : ℕ). cond (p w) y 0) (A .streams) in
-      let q : tallied b′ p ≡ sum (b .used) (λ j. cond (p (b′ .value j)) (b′ .streams j) 0) = ap (λ (y : ℕ). sum y (λ j. cond (p (b′ .value j)) (b′ .streams j) 0)) u in
+      let q : tallied b′ p ≡ sum (b .used) (λ j. cond (p (b′ .value j)) (b′ .streams j) 0) =
+      ap (λ (y : ℕ). sum y (λ j. cond (p (b′ .value j)) (b′ .streams j) 0)) u in
       omega arith
 
 module _ (R : Rule) (G : Lawful R) where
@@ -111,7 +114,9 @@ module _ (R : Rule) (G : Lawful R) where
       altered-accepted ok j m f =
           altered-cases j
           (λ e. rw e (ap (R .accepted) (A .value) ∙ ok (let z = not-free b′ j f in let y : b′ .streams j ≡ n = ap (b′ .streams) e ∙ A .streams in omega arith)))
-          (λ x. ap (R .accepted) (A .other-value j (omega arith) x) ∙ S .accepted j (omega arith) (ap (λ (y : ℕ). eqb y 0) (sym (A .other-streams j (omega arith) x)) ∙ f))
+          (λ x.
+          let was : isFree b j ≡ false = ap (λ (y : ℕ). eqb y 0) (sym (A .other-streams j (omega arith) x)) ∙ f in
+          ap (R .accepted) (A .other-value j (omega arith) x) ∙ S .accepted j (omega arith) was)
 
       -- where the value there is then that of no other entry with streams
       altered-apart : ((j : ℕ) → j < b .used → (j ≡ i → ⊥) → isFree b j ≡ false → R .same w (b .value j) ≡ false)
@@ -129,12 +134,14 @@ module _ (R : Rule) (G : Lawful R) where
           (λ xj.
           altered-cases k
           (λ ek. clash (cc (
-            ap (λ (y : Value). R .same (b′ .value j) y) (ap (b′ .value) ek ∙ A .value) ∙ ap (λ (y : Value). R .same y w) (A .other-value j (omega arith) xj) ∙ same-turned R G (b .value j) w,
+            ap (λ (y : Value). R .same (b′ .value j) y) (ap (b′ .value) ek ∙ A .value)
+            ∙ ap (λ (y : Value). R .same y w) (A .other-value j (omega arith) xj) ∙ same-turned R G (b .value j) w,
             new j (omega arith) xj (was-live j (omega arith) xj fj),
             e,
           )))
           (λ xk. S .apart j k (omega arith) (omega arith) (was-live j (omega arith) xj fj) (was-live k (omega arith) xk fk)
-          (sym (ap (λ (y : Value). R .same y (b′ .value k)) (A .other-value j (omega arith) xj) ∙ ap (R .same (b .value j)) (A .other-value k (omega arith) xk)) ∙ e)))
+          (sym (ap (λ (y : Value). R .same y (b′ .value k)) (A .other-value j (omega arith) xj)
+          ∙ ap (R .same (b .value j)) (A .other-value k (omega arith) xk)) ∙ e)))
         where
           was-live : (j : ℕ) → j < b .used → (j ≡ i → ⊥) → isFree b′ j ≡ false → isFree b j ≡ false
           was-live j m x f = ap (λ (y : ℕ). eqb y 0) (sym (A .other-streams j m x)) ∙ f
@@ -149,10 +156,12 @@ module _ (R : Rule) (G : Lawful R) where
       kept-apart j k hj hk fj fk e =
           let x = was j (omega arith) fj in
           let y = was k (omega arith) fk in
-          S .apart j k (omega arith) (omega arith) (x .0) (y .0) (sym (ap (λ (z : Value). R .same z (b′ .value k)) (x .1) ∙ ap (R .same (b .value j)) (y .1)) ∙ e)
+          S .apart j k (omega arith) (omega arith) (x .0) (y .0)
+          (sym (ap (λ (z : Value). R .same z (b′ .value k)) (x .1) ∙ ap (R .same (b .value j)) (y .1)) ∙ e)
 
     -- an entry that had streams has another number of them
-    module _ (v : Value) (i : ℕ) (h : i < b .used) (e : names R b v i ≡ true) (b′ : Book) (u : b′ .used ≡ b .used) (n : ℕ) (A : Altered b b′ i (b .value i) n) where
+    module _ (v : Value) (i : ℕ) (h : i < b .used) (e : names R b v i ≡ true) (b′ : Book) (u : b′ .used ≡ b .used) (n : ℕ)
+        (A : Altered b b′ i (b .value i) n) where
       was-there : (j : ℕ) → j < b .used → isFree b′ j ≡ false → (isFree b j ≡ false) × (b′ .value j ≡ b .value j)
       was-there j m f =
           by-bool (eqb j i)
@@ -308,11 +317,14 @@ module _ (R : Rule) (G : Lawful R) where
                 let w = S .tallies p resp ok in
                 let x : sum (b .used) (λ j. cond (p (b′ .value j)) (b′ .streams j) 0) ≡ tallied b p =
                 sum-same (b .used) (λ j. cond (p (b .value j)) (b .streams j) 0) (λ j. cond (p (b′ .value j)) (b′ .streams j) 0)
-                (λ j m. ap (λ (y : Value). cond (p y) (b′ .streams j) 0) (A .other-value j m (λ e. omega arith)) ∙ ap (λ (y : ℕ). cond (p (b .value j)) y 0) (A .other-streams j m (λ e. omega arith))) in
+                (λ j m.
+                ap (λ (y : Value). cond (p y) (b′ .streams j) 0) (A .other-value j m (λ e. omega arith))
+                ∙ ap (λ (y : ℕ). cond (p (b .value j)) y 0) (A .other-streams j m (λ e. omega arith))) in
                 let r : cond (p (b′ .value (b .used))) (b′ .streams (b .used)) 0 ≡ bit (p v) =
                 ap (λ (y : Value). cond (p y) (b′ .streams (b .used)) 0) (A .value) ∙ ap (λ (y : ℕ). cond (p v) y 0) (A .streams)
                 ∙ by-bool (p v) (λ t. simp t) (λ t. simp t) in
-                let q : tallied b′ p ≡ sum (suc (b .used)) (λ j. cond (p (b′ .value j)) (b′ .streams j) 0) = ap (λ (y : ℕ). sum y (λ j. cond (p (b′ .value j)) (b′ .streams j) 0)) u in
+                let q : tallied b′ p ≡ sum (suc (b .used)) (λ j. cond (p (b′ .value j)) (b′ .streams j) 0) =
+                ap (λ (y : ℕ). sum y (λ j. cond (p (b′ .value j)) (b′ .streams j) 0)) u in
                 omega arith;
             refused = er ∙ S .refused ∙ simp a (omega arith);
             total = omega (arith, S .total);
@@ -325,12 +337,22 @@ module _ (R : Rule) (G : Lawful R) where
                 last-or j hj
                 (λ ej.
                 last-or k hk (λ ek. ej ∙ sym ek)
-                (λ mk. clash (cc (ap (λ (y : Value). R .same y (b′ .value k)) (ap (b′ .value) ej ∙ A .value) ∙ ap (R .same v) (A .other-value k mk (λ x. omega arith)), new-apart k mk (was k mk fk), e))))
+                (λ mk. clash (cc (
+                  ap (λ (y : Value). R .same y (b′ .value k)) (ap (b′ .value) ej ∙ A .value) ∙ ap (R .same v) (A .other-value k mk (λ x. omega arith)),
+                  new-apart k mk (was k mk fk),
+                  e,
+                ))))
                 (λ mj.
                 last-or k hk
-                (λ ek. clash (cc (ap (λ (y : Value). R .same (b′ .value j) y) (ap (b′ .value) ek ∙ A .value) ∙ ap (λ (y : Value). R .same y v) (A .other-value j mj (λ x. omega arith)) ∙ same-turned R G (b .value j) v, new-apart j mj (was j mj fj), e)))
+                (λ ek. clash (cc (
+                  ap (λ (y : Value). R .same (b′ .value j) y) (ap (b′ .value) ek ∙ A .value)
+                  ∙ ap (λ (y : Value). R .same y v) (A .other-value j mj (λ x. omega arith)) ∙ same-turned R G (b .value j) v,
+                  new-apart j mj (was j mj fj),
+                  e,
+                )))
                 (λ mk. S .apart j k mj mk (was j mj fj) (was k mk fk)
-                (sym (ap (λ (y : Value). R .same y (b′ .value k)) (A .other-value j mj (λ x. omega arith)) ∙ ap (R .same (b .value j)) (A .other-value k mk (λ x. omega arith))) ∙ e)));
+                (sym (ap (λ (y : Value). R .same y (b′ .value k)) (A .other-value j mj (λ x. omega arith))
+                ∙ ap (R .same (b .value j)) (A .other-value k mk (λ x. omega arith))) ∙ e)));
             within = omega arith;
           }
         where
@@ -358,7 +380,9 @@ module _ (R : Rule) (G : Lawful R) where
           (λ t. let k = ltb-false i (b .used) t in omega (arith, F .most, standing, sum-most (b .used) (λ j. bit (not (isFree b j))) live-most))
 
       pub room-no : most ≤ i → most ≤ clocksIn R l
-      room-no h = omega (arith, F .most, S .within, standing, sum-all (b .used) (λ j. bit (not (isFree b j))) (λ j m. simp (F .none j (omega (arith, S .within)))))
+      room-no h =
+          let all = sum-all (b .used) (λ j. bit (not (isFree b j))) (λ j m. simp (F .none j (omega (arith, S .within)))) in
+          omega (arith, F .most, S .within, standing, all)
 
     -- a clock is joined into another: its streams are added to the other's entry, and then its own is freed
     module _ (v w : Value) (apart : R .same v w ≡ false) (i j : ℕ) (hi : i < b .used) (hj : j < b .used) (ei : names R b v i ≡ true) (ej : names R b w j ≡ true)
@@ -366,7 +390,8 @@ module _ (R : Rule) (G : Lawful R) where
         (A₁ : Altered b b₁ j (b .value j) (b .streams j + b .streams i)) (A₂ : Altered b₁ b₂ i (b₁ .value i) 0) where
       two : i ≡ j → ⊥
       two e =
-          clash (cc (apart, G .on v (b .value i) w (named-same v i hi ei) (G .back w (b .value i) (ap (λ (k : ℕ). R .same w (b .value k)) e ∙ named-same w j hj ej))))
+          let q : R .same w (b .value i) ≡ true = ap (λ (k : ℕ). R .same w (b .value k)) e ∙ named-same w j hj ej in
+          clash (cc (apart, G .on v (b .value i) w (named-same v i hi ei) (G .back w (b .value i) q)))
 
       value-i : b₁ .value i ≡ b .value i
       value-i = A₁ .other-value i hi two
@@ -386,7 +411,8 @@ module _ (R : Rule) (G : Lawful R) where
           (has-streams b k (rw e (named-streams w j hj ej)), A₂ .other-value k (omega arith) x ∙ rw e (A₁ .value)))
           (λ s.
           let y = eqb-false k j s in
-          (ap (λ (z : ℕ). eqb z 0) (sym (A₂ .other-streams k (omega arith) x ∙ A₁ .other-streams k m y)) ∙ f, A₂ .other-value k (omega arith) x ∙ A₁ .other-value k m y)))
+          (ap (λ (z : ℕ). eqb z 0) (sym (A₂ .other-streams k (omega arith) x ∙ A₁ .other-streams k m y)) ∙ f,
+          A₂ .other-value k (omega arith) x ∙ A₁ .other-value k m y)))
 
       pub joins : b₂ .refused ≡ b .refused → b₂ .total ≡ b .total
           → ((d : ℕ) → d < 128 → b₂ .domain d ≡ b .domain d - cond (hasDomain R d v) (b .streams i) 0 + cond (hasDomain R d w) (b .streams i) 0)

@@ -13,7 +13,7 @@ use Rattle.streams.specs.Streams.{Streams, bit, numberOf, ofClock, clock
 use Rattle.streams.specs.Sums.{sum}
 use Rattle.streams.specs.Private.Book.{Book, isFree, tallied, live}
 use Rattle.streams.proofs.Lists.{clock-alike, second, same-turned, same-alike}
-use Rattle.streams.proofs.Sums.{sum-same, sum-change, sum-zero, sum-term}
+use Rattle.streams.proofs.Sums.{over-zero, sum-same, sum-change, sum-zero, sum-term}
 
 -- a sum over 0 has a term over 0
 record Term (n : ℕ) (f : ℕ → ℕ) : Type 0 where
@@ -70,8 +70,7 @@ module _ (R : Rule) (G : Lawful R) (b : Book)
         by-bool (eqb (ofClock R s l) 0)
             (λ z. let y : ofClock R s l ≡ 0 = eqb-true (ofClock R s l) 0 z in simp (f, n, y))
             (λ z.
-            let y = eqb-false (ofClock R s l) 0 z in
-            let t : ltb 0 (ofClock R s l) ≡ true = by-bool (ltb 0 (ofClock R s l)) (λ q. q) (λ q. absurd (y (let r = ltb-false 0 (ofClock R s l) q in omega arith))) in
+            let t : ltb 0 (ofClock R s l) ≡ true = lt-ltb 0 (ofClock R s l) (over-zero (ofClock R s l) z) in
             simp (f, n, t, z)),
       )
 
@@ -92,7 +91,8 @@ module _ (R : Rule) (G : Lawful R) (b : Book)
       (λ y. y))) in
       simp a (omega (arith, c, t .0, t .1, classes l q)))
       (λ a.
-      let c = sum-same (b .used) (has l) (has (s ∷ l)) (λ j h. has-other s l j (λ f. by-bool (R .same (b .value j) s) (λ y. clash (cc (a, second R G (b .value j) s y))) (λ y. y))) in
+      let c = sum-same (b .used) (has l) (has (s ∷ l)) (λ j h. has-other s l j (λ f.
+      by-bool (R .same (b .value j) s) (λ y. clash (cc (a, second R G (b .value j) s y))) (λ y. y))) in
       simp a (omega (arith, c, classes l q)))
 
   -- where the counts of the entries are those of the list
@@ -124,8 +124,7 @@ module _ (R : Rule) (G : Lawful R) (b : Book)
         let t : R .same v v ≡ true = G .to-self v (accepted i h f) in
         let k : b .streams i ≤ ofClock R v l =
         (let x = sum-term (b .used) (λ j. cond (R .same v (b .value j)) (b .streams j) 0) i h in omega (arith, tallies v, simp t at x)) in
-        let s : 0 < b .streams i =
-        by-bool (ltb 0 (b .streams i)) (λ q. ltb-true 0 (b .streams i) q) (λ q. absurd (eqb-false (b .streams i) 0 f (let r = ltb-false 0 (b .streams i) q in omega arith))) in
+        let s : 0 < b .streams i = over-zero (b .streams i) f in
         simp (f, lt-ltb 0 (ofClock R v l) (omega arith)))
 
     pub live-clocks : live b ≡ clocksIn R l

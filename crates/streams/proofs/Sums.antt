@@ -8,6 +8,10 @@ use borrow.Author.Tests.{eq-eqb, ne-eqb, eqb-true, eqb-false, lt-ltb, le-ltb, lt
 use Rattle.text.proofs.Bools.{by-bool, clash}
 use Rattle.streams.specs.Sums.{sum, firstFrom, first}
 
+-- a number that is not 0
+pub over-zero : (n : ℕ) → eqb n 0 ≡ false → 0 < n
+over-zero n e = by-bool (ltb 0 n) (λ t. ltb-true 0 n t) (λ t. absurd (eqb-false n 0 e (let h = ltb-false 0 n t in omega arith)))
+
 pub sum-same : (n : ℕ) (f g : ℕ → ℕ) → ((j : ℕ) → j < n → g j ≡ f j) → sum n g ≡ sum n f
 unfolding sum
 sum-same zero f g e = refl
