@@ -11,6 +11,7 @@ use Rattle.clock.specs.declared.ReferenceClockRead.{ReferenceClockRead}
 use Rattle.clock.specs.declared.ReferenceClockRead.the-variants as read
 use Rattle.meaning.specs.ReferenceClock.{readReferenceClock}
 use Rattle.meaning.specs.Meaning.{refMeaning}
+use Rattle.streams.specs.Limits.{leastMemory}
 use Rattle.streams.specs.declared.Uncounted.the-variants.{NoMemory}
 use Rattle.slots.specs.Slot.{streamsAt, takenSlots, streamSum}
 use Rattle.slots.specs.Find.{SlotOf}
@@ -19,7 +20,8 @@ use Rattle.counts.specs.State.{usedIn}
 use Rattle.counts.specs.declared.Census.{Census}
 use Rattle.asking.specs.declared.Asked.{Asked}
 use Rattle.asking.specs.declared.Asked.the-variants.{Number, Refused}
-use Rattle.asking.specs.Asking.{streamsIn, streamsRead, asked, AsksClock, AsksStreams}
+use Rattle.asking.specs.Asking.{streamsIn, streamsRead, asked, AsksStreams}
+use Rattle.asking.specs.Private.Clock.{AsksClock}
 
 -- `streams_of_clock`
 module _ (c : Census) (m v : List ℕ) (k : ReferenceClock) (u : ℕ) (eu : u ≡ usedIn c) (i : ℕ) (s : SlotOf m (refMeaning v k) u i) where
@@ -36,15 +38,15 @@ module _ (c : Census) (m v : List ℕ) (k : ReferenceClock) (u : ℕ) (eu : u �
 
 -- `streams_of`
 module _ (c : Census) (m v : List ℕ) where
-  pub ask-short : length m < 270000 → AsksStreams c m v (Refused NoMemory)
-  ask-short h = record { is = λ i s. simp (lt-ltb (length m) 270000 h) }
+  pub ask-short : length m < leastMemory → AsksStreams c m v (Refused NoMemory)
+  ask-short h = record { is = λ i s. simp (lt-ltb (length m) leastMemory h) }
 
-  module _ (h : 270000 ≤ length m) (x : ReferenceClockRead) (ex : x ≡ readReferenceClock v) where
+  module _ (h : leastMemory ≤ length m) (x : ReferenceClockRead) (ex : x ≡ readReferenceClock v) where
     pub ask-refused : (q : Refusal) → x ≡ read.Refused q → AsksStreams c m v (Number 0)
-    ask-refused q e = record { is = λ i s. simp (le-ltb (length m) 270000 h, ← ex, e) }
+    ask-refused q e = record { is = λ i s. simp (le-ltb (length m) leastMemory h, ← ex, e) }
 
     pub ask-accepted : (k : ReferenceClock) → x ≡ read.Accepted k → (n : ℕ) → AsksClock c m v k n → AsksStreams c m v (Number n)
-    ask-accepted k e n a = record { is = λ i s. simp (le-ltb (length m) 270000 h, ← ex, e) (ap Number (a .is i (s .named k (sym ex ∙ e)))) }
+    ask-accepted k e n a = record { is = λ i s. simp (le-ltb (length m) leastMemory h, ← ex, e) (ap Number (a .is i (s .named k (sym ex ∙ e)))) }
 
 -- `clocks`, `clock_sum`
 pub clocks-are : (c : Census) (m : List ℕ) (u r : ℕ) → u ≡ usedIn c → r ≡ takenSlots m u → r ≡ takenSlots m (usedIn c)

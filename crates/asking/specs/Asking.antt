@@ -5,15 +5,13 @@ use mathlib.Core.List.{List}
 use mathlib.Core.Bool.{cond}
 use lib.Dec.{ltb}
 use lib.ListN.{length}
-use Rattle.clock.specs.declared.ReferenceClock.{ReferenceClock}
 use Rattle.clock.specs.declared.ReferenceClockRead.{ReferenceClockRead}
 use Rattle.clock.specs.declared.ReferenceClockRead.the-variants as read
 use Rattle.meaning.specs.ReferenceClock.{readReferenceClock}
-use Rattle.meaning.specs.Meaning.{refMeaning}
 use Rattle.streams.specs.Limits.{leastMemory}
 use Rattle.streams.specs.declared.Uncounted.the-variants.{NoMemory}
 use Rattle.slots.specs.Slot.{streamsAt}
-use Rattle.slots.specs.Find.{SlotOf, SlotFor}
+use Rattle.slots.specs.Find.{SlotFor}
 use Rattle.counts.specs.State.{usedIn}
 use Rattle.counts.specs.declared.Census.{Census}
 use Rattle.asking.specs.declared.Asked.{Asked}
@@ -31,10 +29,7 @@ streamsRead c m i (read.Refused r) = 0
 abbrev pub asked : List ℕ → ℕ → Asked
 asked m n = cond (ltb (length m) leastMemory) (Refused NoMemory) (Number n)
 
--- of a record that is known, and of a value
-pub record AsksClock (c : Census) (m v : List ℕ) (k : ReferenceClock) (r : ℕ) : Type 0 where
-  pub is : (i : ℕ) → SlotOf m (refMeaning v k) (usedIn c) i → r ≡ streamsIn c m i
-
+-- the answer to the question by the value v
 pub record AsksStreams (c : Census) (m v : List ℕ) (r : Asked) : Type 0 where
   pub is : (i : ℕ) → SlotFor m v (usedIn c) i → r ≡ asked m (streamsRead c m i (readReferenceClock v))
 

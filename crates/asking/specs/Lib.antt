@@ -1,2 +1,3 @@
 -- What the questions answer.
 pub mod Asking
+pub mod Private

@@ -2,7 +2,8 @@
 ghost use mathlib.Core.Path.{_≡_};
 ghost use Rattle.slots.specs.Slot.{takenSlots, streamSum};
 ghost use Rattle.counts.specs.State.{usedIn};
-ghost use Rattle.asking.specs.Asking.{AsksClock, AsksStreams};
+ghost use Rattle.asking.specs.Asking.{AsksStreams};
+ghost use Rattle.asking.specs.Private.Clock.{AsksClock};
 use clock::ReferenceClock;
 use clock::ReferenceClockRead;
 use counts::Census;

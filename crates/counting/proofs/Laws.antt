@@ -22,7 +22,7 @@ use Rattle.streams.specs.Limits.{leastMemory, mostClocks, mostStreams}
 use Rattle.streams.specs.declared.Uncounted.the-variants.{NoMemory, TotalFull, ClocksFull}
 use Rattle.naming.specs.Domain.{orNone, domainIn}
 use Rattle.quads.specs.Quad.{quad}
-use Rattle.slots.specs.Slot.{slotBytes, streamsAt, freeSlot}
+use Rattle.slots.specs.Slot.{slotSize, slotBytes, streamsAt, freeSlot}
 use Rattle.slots.specs.Find.{SlotOf, SlotFor}
 use Rattle.slots.proofs.Slots.{slot-settled}
 use Rattle.counts.specs.State.{census, usedIn, plus, oneMore}
@@ -39,20 +39,20 @@ accepted-short v k e = ref-fits bare bare-lawful v k (ref-answer v k e)
 
 -- `count_known`
 pub known-done : (c : Census) (m : List ℕ) (k : ReferenceClock) (i n p : ℕ) → n ≡ streamsAt m i → p ≡ plus n 1
-    → (m′ : List ℕ) → m′ ≡ sets m (i * 1036) (quad p) → (a : Census) → a ≡ oneMore (orNone (domainIn k)) c → (r : Called) → r ≡ doneWith a
+    → (m′ : List ℕ) → m′ ≡ sets m (i * slotSize) (quad p) → (a : Census) → a ≡ oneMore (orNone (domainIn k)) c → (r : Called) → r ≡ doneWith a
     → Does (countKnown c m k i) c m r m′
 unfolding countKnown
 known-done c m k i n p en ep m′ em a ea r er =
-    does-leave refl (er ∙ ap doneWith ea) (em ∙ ap (λ (x : ℕ). sets m (i * 1036) (quad x)) (ep ∙ ap (λ (x : ℕ). plus x 1) en))
+    does-leave refl (er ∙ ap doneWith ea) (em ∙ ap (λ (x : ℕ). sets m (i * slotSize) (quad x)) (ep ∙ ap (λ (x : ℕ). plus x 1) en))
 
 -- `count_new`
 module _ (c : Census) (m v : List ℕ) (k : ReferenceClock) (u : ℕ) (eu : u ≡ usedIn c) (i : ℕ) (ei : i ≡ freeSlot m u) where
-  pub new-full : 255 ≤ i → (r : Called) → r ≡ refusedWith c ClocksFull → Does (countNew c m v k) c m r m
+  pub new-full : mostClocks ≤ i → (r : Called) → r ≡ refusedWith c ClocksFull → Does (countNew c m v k) c m r m
   unfolding countNew
-  new-full h r f = does-refuse (simp (← eu, ← ei, le-leb 255 i h)) f
+  new-full h r f = does-refuse (simp (← eu, ← ei, le-leb mostClocks i h)) f
 
-  pub new-done : readReferenceClock v ≡ Accepted k → i < 255 → (p : ℕ) → p ≡ fingerprint hostPrint (refMeaning v k)
-      → (m′ : List ℕ) → m′ ≡ sets m (i * 1036) (slotBytes 1 p (take 1024 v))
+  pub new-done : readReferenceClock v ≡ Accepted k → i < mostClocks → (p : ℕ) → p ≡ fingerprint hostPrint (refMeaning v k)
+      → (m′ : List ℕ) → m′ ≡ sets m (i * slotSize) (slotBytes 1 p (take 1024 v))
       → (a : Census) → a ≡ oneMore (orNone (domainIn k)) c → (w : ℕ) → w ≡ max u (i + 1)
       → (r : Called) → r ≡ doneWith (census w (a .total) (a .refused) (a .domains))
       → Does (countNew c m v k) c m r m′
@@ -60,13 +60,13 @@ module _ (c : Census) (m v : List ℕ) (k : ReferenceClock) (u : ℕ) (eu : u �
   new-done reads h p ep m′ em a ea w ew r er =
       let b = oneMore (orNone (domainIn k)) c in
       let q : countNew c m v k
-      ≡ leaves (census (max u (i + 1)) (b .total) (b .refused) (b .domains)) (sets m (i * 1036) (slotBytes 1 (fingerprint hostPrint (refMeaning v k)) v)) =
-      simp (← eu, ← ei, lt-leb 255 i h) in
+      ≡ leaves (census (max u (i + 1)) (b .total) (b .refused) (b .domains)) (sets m (i * slotSize) (slotBytes 1 (fingerprint hostPrint (refMeaning v k)) v)) =
+      simp (← eu, ← ei, lt-leb mostClocks i h) in
       does-leave q (er ∙ cc (ea, ew))
-      (em ∙ ap (λ (x : ℕ). sets m (i * 1036) (slotBytes 1 x (take 1024 v))) ep
-      ∙ ap (λ (x : List ℕ). sets m (i * 1036) (slotBytes 1 (fingerprint hostPrint (refMeaning v k)) x)) (take-all 1024 v (accepted-short v k reads)))
+      (em ∙ ap (λ (x : ℕ). sets m (i * slotSize) (slotBytes 1 x (take 1024 v))) ep
+      ∙ ap (λ (x : List ℕ). sets m (i * slotSize) (slotBytes 1 (fingerprint hostPrint (refMeaning v k)) x)) (take-all 1024 v (accepted-short v k reads)))
 
-pub next-fits : (i : ℕ) → i < 255 → i + 1 ≤ 65535
+pub next-fits : (i : ℕ) → i < mostClocks → i + 1 ≤ 65535
 next-fits i h = omega arith
 
 -- `count_clock`
@@ -94,23 +94,23 @@ pub accepted-is : (v : List ℕ) (x : ReferenceClockRead) (k : ReferenceClock) �
 accepted-is v x k e f = sym e ∙ f
 
 module _ (c : Census) (m v : List ℕ) where
-  pub count-short : length m < 270000 → (r : Called) → r ≡ refusedWith c NoMemory → Counts c m v r m
+  pub count-short : length m < leastMemory → (r : Called) → r ≡ refusedWith c NoMemory → Counts c m v r m
   unfolding countOutcome
-  count-short h r e = record { does = λ i s. does-refuse (simp (lt-ltb (length m) 270000 h)) e }
+  count-short h r e = record { does = λ i s. does-refuse (simp (lt-ltb (length m) leastMemory h)) e }
 
-  module _ (h : 270000 ≤ length m) where
-    pub count-full : 4294967295 ≤ c .total → (r : Called) → r ≡ refusedWith c TotalFull → Counts c m v r m
+  module _ (h : leastMemory ≤ length m) where
+    pub count-full : mostStreams ≤ c .total → (r : Called) → r ≡ refusedWith c TotalFull → Counts c m v r m
     unfolding countOutcome
-    count-full k r e = record { does = λ i s. does-refuse (simp (le-ltb (length m) 270000 h, le-leb 4294967295 (c .total) k)) e }
+    count-full k r e = record { does = λ i s. does-refuse (simp (le-ltb (length m) leastMemory h, le-leb mostStreams (c .total) k)) e }
 
-    module _ (k : c .total < 4294967295) (x : ReferenceClockRead) (ex : x ≡ readReferenceClock v) where
+    module _ (k : c .total < mostStreams) (x : ReferenceClockRead) (ex : x ≡ readReferenceClock v) where
       pub count-refused : (q : Refusal) → x ≡ Refused q → (r : Called) → r ≡ doneWith (oneRefusedMore c) → Counts c m v r m
       unfolding countOutcome
       count-refused q e r er =
           record {
             does = λ i s.
                 let o : countOutcome c m v i ≡ leaves (oneRefusedMore c) m =
-                simp (le-ltb (length m) 270000 h, lt-leb 4294967295 (c .total) k, ← ex, e) in
+                simp (le-ltb (length m) leastMemory h, lt-leb mostStreams (c .total) k, ← ex, e) in
                 does-leave o er refl;
           }
 
@@ -118,7 +118,7 @@ module _ (c : Census) (m v : List ℕ) where
       unfolding countOutcome
       count-accepted a e r m′ w =
           record {
-            does = λ i s. does-same (simp (le-ltb (length m) 270000 h, lt-leb 4294967295 (c .total) k, ← ex, e)) (w .does i (s .named a (sym ex ∙ e)));
+            does = λ i s. does-same (simp (le-ltb (length m) leastMemory h, lt-leb mostStreams (c .total) k, ← ex, e)) (w .does i (s .named a (sym ex ∙ e)));
           }
 
 pub ruleset laws = (

@@ -12,10 +12,11 @@ use Rattle.clock.specs.declared.ReferenceClockRead.{ReferenceClockRead}
 use Rattle.clock.specs.declared.ReferenceClockRead.the-variants.{Accepted, Refused}
 use Rattle.meaning.specs.ReferenceClock.{readReferenceClock}
 use Rattle.meaning.specs.Meaning.{refMeaning}
+use Rattle.streams.specs.Limits.{leastMemory}
 use Rattle.streams.specs.declared.Uncounted.the-variants.{NoMemory, NoStream}
 use Rattle.naming.specs.Domain.{orNone, domainIn}
 use Rattle.quads.specs.Quad.{quad}
-use Rattle.slots.specs.Slot.{streamsAt}
+use Rattle.slots.specs.Slot.{slotSize, streamsAt}
 use Rattle.slots.specs.Find.{SlotOf}
 use Rattle.slots.proofs.Slots.{slot-settled}
 use Rattle.counts.specs.State.{census, usedIn, plus, more, less}
@@ -28,11 +29,11 @@ use Rattle.joining.specs.Private.Clock.{Adds, Moves, JoinsClocks}
 
 -- `add_streams`, `move_streams`
 module _ (m : List ℕ) (i j : ℕ) where
-  pub adds : (o n p : ℕ) → o ≡ streamsAt m j → n ≡ streamsAt m i → p ≡ plus o n → (m₁ : List ℕ) → m₁ ≡ sets m (j * 1036) (quad p) → Adds m i j n m₁
-  adds o n p eo en ep m₁ e = record { number = en; memory = e ∙ ap (λ (x : ℕ). sets m (j * 1036) (quad x)) (ep ∙ cc (eo, en)) }
+  pub adds : (o n p : ℕ) → o ≡ streamsAt m j → n ≡ streamsAt m i → p ≡ plus o n → (m₁ : List ℕ) → m₁ ≡ sets m (j * slotSize) (quad p) → Adds m i j n m₁
+  adds o n p eo en ep m₁ e = record { number = en; memory = e ∙ ap (λ (x : ℕ). sets m (j * slotSize) (quad x)) (ep ∙ cc (eo, en)) }
 
-  pub moves : (n : ℕ) (m₁ : List ℕ) → Adds m i j n m₁ → (m₂ : List ℕ) → m₂ ≡ sets m₁ (i * 1036) (quad 0) → Moves m i j n m₂
-  moves n m₁ w m₂ e = record { number = w .number; memory = e ∙ ap (λ (y : List ℕ). sets y (i * 1036) (quad 0)) (w .memory) }
+  pub moves : (n : ℕ) (m₁ : List ℕ) → Adds m i j n m₁ → (m₂ : List ℕ) → m₂ ≡ sets m₁ (i * slotSize) (quad 0) → Moves m i j n m₂
+  moves n m₁ w m₂ e = record { number = w .number; memory = e ∙ ap (λ (y : List ℕ). sets y (i * slotSize) (quad 0)) (w .memory) }
 
 -- `join_slots`
 module _ (c : Census) (m : List ℕ) (i : ℕ) (from : ReferenceClock) (j : ℕ) (into : ReferenceClock) where
@@ -90,26 +91,26 @@ module _ (c : Census) (m v : List ℕ) (from : ReferenceClock) (w : List ℕ) (i
 
 -- `join`
 module _ (c : Census) (m v w : List ℕ) where
-  pub join-short : length m < 270000 → (r : Called) → r ≡ refusedWith c NoMemory → Joins c m v w r m
+  pub join-short : length m < leastMemory → (r : Called) → r ≡ refusedWith c NoMemory → Joins c m v w r m
   unfolding joinOutcome
-  join-short h r e = record { does = λ i j s t. does-refuse (simp (lt-ltb (length m) 270000 h)) e }
+  join-short h r e = record { does = λ i j s t. does-refuse (simp (lt-ltb (length m) leastMemory h)) e }
 
-  module _ (h : 270000 ≤ length m) (x : ReferenceClockRead) (ex : x ≡ readReferenceClock v) where
+  module _ (h : leastMemory ≤ length m) (x : ReferenceClockRead) (ex : x ≡ readReferenceClock v) where
     pub join-first-refused : (q : Refusal) → x ≡ Refused q → (r : Called) → r ≡ refusedWith c NoStream → Joins c m v w r m
     unfolding joinOutcome
-    join-first-refused q e r er = record { does = λ i j s t. does-refuse (simp (le-ltb (length m) 270000 h, ← ex, e)) er }
+    join-first-refused q e r er = record { does = λ i j s t. does-refuse (simp (le-ltb (length m) leastMemory h, ← ex, e)) er }
 
     module _ (k : ReferenceClock) (e : x ≡ Accepted k) (y : ReferenceClockRead) (ey : y ≡ readReferenceClock w) where
       pub join-second-refused : (q : Refusal) → y ≡ Refused q → (r : Called) → r ≡ refusedWith c NoStream → Joins c m v w r m
       unfolding joinOutcome
-      join-second-refused q f r er = record { does = λ i j s t. does-refuse (simp (le-ltb (length m) 270000 h, ← ex, e, ← ey, f)) er }
+      join-second-refused q f r er = record { does = λ i j s t. does-refuse (simp (le-ltb (length m) leastMemory h, ← ex, e, ← ey, f)) er }
 
       pub join-accepted : (l : ReferenceClock) → y ≡ Accepted l → (r : Called) (m′ : List ℕ) → JoinsClocks c m v k w l r m′ → Joins c m v w r m′
       unfolding joinOutcome
       join-accepted l f r m′ z =
           record {
             does = λ i j s t.
-                does-same (simp (le-ltb (length m) 270000 h, ← ex, e, ← ey, f))
+                does-same (simp (le-ltb (length m) leastMemory h, ← ex, e, ← ey, f))
                 (z .does i j (s .named k (sym ex ∙ e)) (t .named l (sym ey ∙ f)));
           }
 

@@ -17,7 +17,7 @@ use Rattle.meaning.specs.ReferenceClock.{readReferenceClock}
 use Rattle.meaning.specs.Meaning.{refMeaning}
 use Rattle.equal.specs.Fingerprint.{fingerprint, hostPrint}
 use Rattle.streams.specs.Rule.{Value, Rule}
-use Rattle.streams.specs.Limits.{limits}
+use Rattle.streams.specs.Limits.{limits, leastMemory, mostClocks, mostStreams}
 use Rattle.streams.specs.Streams.{Streams, isRefused, ofClock, clocksIn}
 use Rattle.streams.specs.Calls.{count, fits, firstOf, reasons, answer, next}
 use Rattle.streams.specs.declared.Uncounted.the-variants.{NoMemory, TotalFull, ClocksFull}
@@ -28,7 +28,7 @@ use Rattle.streams.proofs.Book.{Altered, named-streams, named-count, unnamed-co
 use Rattle.naming.specs.Domain.{orNone, domainIn}
 use Rattle.naming.specs.ClockRule.{isAccepted, ClockRule}
 use Rattle.quads.specs.Quad.{quad}
-use Rattle.slots.specs.Slot.{slotBytes, streamsAt, valueAt, isFree, freeSlot}
+use Rattle.slots.specs.Slot.{slotSize, slotBytes, streamsAt, valueAt, isFree, freeSlot}
 use Rattle.slots.specs.Find.{SlotOf, SlotFor}
 use Rattle.counts.specs.State.{census, usedIn, plus, more, oneMore}
 use Rattle.counts.specs.declared.Census.{Census}
@@ -40,19 +40,19 @@ use Rattle.kept.proofs.Slots.{recounts, prints-recounted, renews, print
 use Rattle.kept.proofs.Found.{G, is-accepted, Right, right-refuse, right-leave, short-answer, long-answer, found, free, not-live, one-more}
 
 module _ (R : Rule) (C : ClockRule R) (c : Census) (m : List ℕ) (l : Streams) (K : Keeps R c m l) where
-  S : Stands R 255 (view c m) l
+  S : Stands R mostClocks (view c m) l
   S = K .stands
 
-  module _ (t : ltb (length m) 270000 ≡ false) (v : Value) (f : leb 4294967295 (c .total) ≡ false) where
-    enough : 270000 ≤ length m
-    enough = ltb-false (length m) 270000 t
+  module _ (t : ltb (length m) leastMemory ≡ false) (v : Value) (f : leb mostStreams (c .total) ≡ false) where
+    enough : leastMemory ≤ length m
+    enough = ltb-false (length m) leastMemory t
 
-    room : length l < 4294967295
-    room = omega (arith, leb-false 4294967295 (c .total) f, S .total)
+    room : length l < mostStreams
+    room = omega (arith, leb-false mostStreams (c .total) f, S .total)
 
     count-answer : fits R limits v l ≡ true → answer R limits (length m) (count v) l ≡ Done
     unfolding reasons firstOf
-    count-answer h = long-answer R C m (count v) l t ∙ simp (lt-leb 4294967295 (length l) room, h)
+    count-answer h = long-answer R C m (count v) l t ∙ simp (lt-leb mostStreams (length l) room, h)
 
     -- a refused value
     count-refused : (q : Refusal) → readReferenceClock v ≡ read.Refused q → (i : ℕ) → Right R C (countOutcome c m v i) c m (count v) l
@@ -62,7 +62,7 @@ module _ (R : Rule) (C : ClockRule R) (c : Census) (m : List ℕ) (l : Streams) 
         right-leave R C (oneRefusedMore c) m (simp (t, f, e)) (count-answer (simp a))
         (record {
           stands =
-              counts-refused R (G R C) 255 (view c m) l S v a (view (oneRefusedMore c) m) refl (λ j h. (refl, refl))
+              counts-refused R (G R C) mostClocks (view c m) l S v a (view (oneRefusedMore c) m) refl (λ j h. (refl, refl))
               (omega (arith, S .refused, number-most (isRefused R) l, room)) (omega (arith, S .total, room)) (λ d h. refl);
           small = omega (arith, room);
           each = K .each;
@@ -79,19 +79,19 @@ module _ (R : Rule) (C : ClockRule R) (c : Census) (m : List ℕ) (l : Streams) 
       unfolding countOutcome countClock countKnown oneMore next
       count-known h =
           let e = found R C c m l K v k reads i s .holds h in
-          let n = named-count R (G R C) 255 (view c m) l S v i h e in
-          let o = named-streams R (G R C) 255 (view c m) l S v i h e in
+          let n = named-count R (G R C) mostClocks (view c m) l S v i h e in
+          let o = named-streams R (G R C) mostClocks (view c m) l S v i h e in
           let x : plus (streamsAt m i) 1 ≡ streamsAt m i + 1 = omega (arith, n, number-most (R .same v) l, room) in
           let c′ = oneMore (orNone (domainIn k)) c in
-          let m′ = sets m (i * 1036) (quad (plus (streamsAt m i) 1)) in
-          let in-i : i * 1036 + 1036 ≤ length m = omega (arith, enough) in
+          let m′ = sets m (i * slotSize) (quad (plus (streamsAt m i) 1)) in
+          let in-i : i * slotSize + slotSize ≤ length m = omega (arith, enough) in
           let A : Altered (view c m) (view c′ m′) i (valueAt m i) (streamsAt m i + 1) =
           recounts m i (plus (streamsAt m i) 1) in-i c c′ (omega arith) (streamsAt m i + 1) x in
           right-leave R C c′ m′ (simp (t, f, reads, lt-ltb i (usedIn c) h))
           (count-answer (simp (accepted, lt-ltb 0 (ofClock R v l) (omega arith))))
           (record {
             stands =
-                counts-known R (G R C) 255 (view c m) l S v i h e (view c′ m′) refl A
+                counts-known R (G R C) mostClocks (view c m) l S v i h e (view c′ m′) refl A
                 refl (omega (arith, S .total, room)) (one-more R C c m l K v k reads room);
             small = omega (arith, room);
             each = more-size (orNone (domainIn k)) 1 (c .domains) ∙ K .each;
@@ -105,44 +105,44 @@ module _ (R : Rule) (C : ClockRule R) (c : Census) (m : List ℕ) (l : Streams) 
         unnamed j g = found R C c m l K v k reads i s .none j (omega arith)
 
         none-yet : ofClock R v l ≡ 0
-        none-yet = unnamed-count R (G R C) 255 (view c m) l S v unnamed
+        none-yet = unnamed-count R (G R C) mostClocks (view c m) l S v unnamed
 
         abbrev j : ℕ
         j = freeSlot m (usedIn c)
 
-        no-room : 255 ≤ j → 255 ≤ clocksIn R l
-        no-room g = room-no R (G R C) 255 (view c m) l S j (free R C c m l K) g
+        no-room : mostClocks ≤ j → mostClocks ≤ clocksIn R l
+        no-room g = room-no R (G R C) mostClocks (view c m) l S j (free R C c m l K) g
 
-        count-full : 255 ≤ j → Right R C (countOutcome c m v i) c m (count v) l
+        count-full : mostClocks ≤ j → Right R C (countOutcome c m v i) c m (count v) l
         unfolding countOutcome countClock countNew reasons firstOf
         count-full g =
-            right-refuse R C ClocksFull (simp (t, f, reads, le-ltb i (usedIn c) h, le-leb 255 j g))
+            right-refuse R C ClocksFull (simp (t, f, reads, le-ltb i (usedIn c) h, le-leb mostClocks j g))
             (long-answer R C m (count v) l t
-            ∙ simp (lt-leb 4294967295 (length l) room, accepted, none-yet, le-ltb (clocksIn R l) 255 (no-room g)))
+            ∙ simp (lt-leb mostStreams (length l) room, accepted, none-yet, le-ltb (clocksIn R l) mostClocks (no-room g)))
             K
 
-        count-new : j < 255 → Right R C (countOutcome c m v i) c m (count v) l
+        count-new : j < mostClocks → Right R C (countOutcome c m v i) c m (count v) l
         unfolding countOutcome countClock countNew oneMore next
         count-new g =
             let c′ = census (max (usedIn c) (j + 1)) (plus (c .total) 1) (c .refused) (more (orNone (domainIn k)) 1 (c .domains)) in
-            let m′ = sets m (j * 1036) (slotBytes 1 (fingerprint hostPrint (refMeaning v k)) v) in
-            let in-j : j * 1036 + 1036 ≤ length m = omega (arith, enough) in
+            let m′ = sets m (j * slotSize) (slotBytes 1 (fingerprint hostPrint (refMeaning v k)) v) in
+            let in-j : j * slotSize + slotSize ≤ length m = omega (arith, enough) in
             let short = accepted-short v k reads in
             let A : Altered (view c m) (view c′ m′) j v 1 = renews m j v k reads in-j short c c′ in
             let F = free R C c m l K in
-            right-leave R C c′ m′ (simp (t, f, reads, le-ltb i (usedIn c) h, lt-leb 255 j g))
-            (count-answer (simp (accepted, none-yet, lt-ltb (clocksIn R l) 255 (room-yes R (G R C) 255 (view c m) l S j F g))))
+            right-leave R C c′ m′ (simp (t, f, reads, le-ltb i (usedIn c) h, lt-leb mostClocks j g))
+            (count-answer (simp (accepted, none-yet, lt-ltb (clocksIn R l) mostClocks (room-yes R (G R C) mostClocks (view c m) l S j F g))))
             (record {
               stands =
                   by-bool (ltb j (usedIn c))
                   (λ y.
                   let b = ltb-true j (usedIn c) y in
-                  counts-new R (G R C) 255 (view c m) l S v accepted unnamed j b (F .holds b) (view c′ m′) (omega arith) A
+                  counts-new R (G R C) mostClocks (view c m) l S v accepted unnamed j b (F .holds b) (view c′ m′) (omega arith) A
                   refl (omega (arith, S .total, room)) (one-more R C c m l K v k reads room))
                   (λ y.
                   let b = ltb-false j (usedIn c) y in
                   let e : j ≡ usedIn c = omega (arith, F .most) in
-                  counts-more R (G R C) 255 (view c m) l S v accepted unnamed (omega arith) (view c′ m′) (omega arith)
+                  counts-more R (G R C) mostClocks (view c m) l S v accepted unnamed (omega arith) (view c′ m′) (omega arith)
                   (subst (λ (x : ℕ). Altered (view c m) (view c′ m′) x v 1) e A)
                   refl (omega (arith, S .total, room)) (one-more R C c m l K v k reads room));
               small = omega (arith, room);
@@ -157,9 +157,9 @@ module _ (R : Rule) (C : ClockRule R) (c : Census) (m : List ℕ) (l : Streams) 
           (λ q. count-known (ltb-true i (usedIn c) q))
           (λ q.
           let h = ltb-false i (usedIn c) q in
-          by-bool (ltb (freeSlot m (usedIn c)) 255)
-          (λ y. count-new h (ltb-true (freeSlot m (usedIn c)) 255 y))
-          (λ y. count-full h (ltb-false (freeSlot m (usedIn c)) 255 y)))
+          by-bool (ltb (freeSlot m (usedIn c)) mostClocks)
+          (λ y. count-new h (ltb-true (freeSlot m (usedIn c)) mostClocks y))
+          (λ y. count-full h (ltb-false (freeSlot m (usedIn c)) mostClocks y)))
 
     by-reading : (i : ℕ) → SlotFor m v (usedIn c) i → (x : ReferenceClockRead) → readReferenceClock v ≡ x → Right R C (countOutcome c m v i) c m (count v) l
     by-reading i s (read.Accepted k) e = count-accepted k e i (s .named k e)
@@ -168,11 +168,11 @@ module _ (R : Rule) (C : ClockRule R) (c : Census) (m : List ℕ) (l : Streams) 
   pub count-right : (v : Value) (i : ℕ) → SlotFor m v (usedIn c) i → Right R C (countOutcome c m v i) c m (count v) l
   unfolding countOutcome reasons firstOf
   count-right v i s =
-      by-bool (ltb (length m) 270000)
+      by-bool (ltb (length m) leastMemory)
       (λ t. right-refuse R C NoMemory (simp t) (short-answer R C m (count v) l t) K)
       (λ t.
-      by-bool (leb 4294967295 (c .total))
+      by-bool (leb mostStreams (c .total))
       (λ f.
-      let h = leb-true 4294967295 (c .total) f in
-      right-refuse R C TotalFull (simp (t, f)) (long-answer R C m (count v) l t ∙ simp (le-leb 4294967295 (length l) (omega (arith, S .total)))) K)
+      let h = leb-true mostStreams (c .total) f in
+      right-refuse R C TotalFull (simp (t, f)) (long-answer R C m (count v) l t ∙ simp (le-leb mostStreams (length l) (omega (arith, S .total)))) K)
       (λ f. by-reading t v f i s (readReferenceClock v) refl))

@@ -10,6 +10,7 @@ use lib.ListN.{length, getD, set, length-set}
 use lib.Seq.{getD-set-same, getD-set-other}
 use borrow.Author.Tests.{eq-eqb, ne-eqb, eqb-true, eqb-false, lt-ltb}
 use Rattle.text.proofs.Bools.{by-bool}
+use Rattle.streams.specs.Limits.{mostStreams}
 use Rattle.streams.specs.Rule.{is}
 use Rattle.streams.specs.Streams.{bit}
 use Rattle.naming.specs.Domain.{orNone}
@@ -24,7 +25,7 @@ bit-of true = refl
 bit-of false = refl
 
 module _ (d n k : ℕ) (ds : List ℕ) (size : length ds ≡ 128) (h : k < 128) where
-  pub more-count : (d ≡ k → getD ds k 0 + n ≤ 4294967295) → getD (more d n ds) k 0 ≡ getD ds k 0 + cond (eqb d k) n 0
+  pub more-count : (d ≡ k → getD ds k 0 + n ≤ mostStreams) → getD (more d n ds) k 0 ≡ getD ds k 0 + cond (eqb d k) n 0
   unfolding more
   more-count b =
       by-bool (eqb d k)

@@ -17,7 +17,7 @@ use Rattle.equal.specs.Fingerprint.{fingerprint, hostPrint}
 use Rattle.equal.proofs.Shared.{one-clock-shares}
 use Rattle.questions.specs.SameClock.{SameClock}
 use Rattle.streams.specs.Rule.{Value, Rule, Lawful, is, hasDomain}
-use Rattle.streams.specs.Limits.{limits}
+use Rattle.streams.specs.Limits.{limits, leastMemory, mostStreams}
 use Rattle.streams.specs.Streams.{Streams, bit, numberOf, inDomain}
 use Rattle.streams.specs.Calls.{Call, firstOf, reasons, answer, next, after}
 use Rattle.streams.specs.declared.Uncounted.{Uncounted}
@@ -62,11 +62,11 @@ module _ (R : Rule) (C : ClockRule R) where
     unfolding after
     right-leave c′ m′ e f w = rw e (record { answered = sym f; keeps = simp f w })
 
-  pub short-answer : (m : List ℕ) (k : Call) (l : Streams) → ltb (length m) 270000 ≡ true → answer R limits (length m) k l ≡ Refused NoMemory
+  pub short-answer : (m : List ℕ) (k : Call) (l : Streams) → ltb (length m) leastMemory ≡ true → answer R limits (length m) k l ≡ Refused NoMemory
   unfolding answer firstOf
   short-answer m k l t = simp t
 
-  pub long-answer : (m : List ℕ) (k : Call) (l : Streams) → ltb (length m) 270000 ≡ false
+  pub long-answer : (m : List ℕ) (k : Call) (l : Streams) → ltb (length m) leastMemory ≡ false
       → answer R limits (length m) k l ≡ firstOf (reasons R limits k l)
   unfolding answer firstOf
   long-answer m k l t = simp t
@@ -121,7 +121,7 @@ module _ (R : Rule) (C : ClockRule R) where
 
     -- one stream more, or less, of that domain
     module _ (v : Value) (k : ReferenceClock) (reads : readReferenceClock v ≡ Accepted k) where
-      pub one-more : length l < 4294967295 → (d : ℕ) → d < 128
+      pub one-more : length l < mostStreams → (d : ℕ) → d < 128
           → getD (more (orNone (domainIn k)) 1 (c .domains)) d 0 ≡ getD (c .domains) d 0 + bit (hasDomain R d v)
       one-more s d h =
           more-count (orNone (domainIn k)) 1 d (c .domains) (K .each) h (λ e. omega (arith, domain-small d h))

@@ -16,7 +16,7 @@ use Rattle.clock.specs.declared.ReferenceClockRead.the-variants as read
 use Rattle.meaning.specs.ReferenceClock.{readReferenceClock}
 use Rattle.meaning.specs.Meaning.{refMeaning}
 use Rattle.streams.specs.Rule.{Value, Rule, is, hasDomain}
-use Rattle.streams.specs.Limits.{limits}
+use Rattle.streams.specs.Limits.{limits, leastMemory, mostClocks, mostStreams}
 use Rattle.streams.specs.Streams.{Streams, ofClock, moved, joined}
 use Rattle.streams.specs.Calls.{join, firstOf, reasons, answer, next}
 use Rattle.streams.specs.declared.Uncounted.the-variants.{NoMemory, NoStream}
@@ -28,7 +28,7 @@ use Rattle.naming.specs.Domain.{orNone, domainIn}
 use Rattle.naming.specs.ClockRule.{isAccepted, ClockRule}
 use Rattle.quads.specs.Quad.{quad}
 use Rattle.quads.proofs.Windows.{quad-length}
-use Rattle.slots.specs.Slot.{streamsAt, valueAt, isFree}
+use Rattle.slots.specs.Slot.{slotSize, streamsAt, valueAt, isFree}
 use Rattle.slots.specs.Find.{SlotOf, SlotFor}
 use Rattle.slots.proofs.Change.{other-streams}
 use Rattle.counts.specs.State.{census, usedIn, plus, more, less}
@@ -40,7 +40,7 @@ use Rattle.kept.proofs.Slots.{recounts, prints-recounted}
 use Rattle.kept.proofs.Found.{G, is-accepted, Right, right-refuse, right-leave, short-answer, long-answer, found, not-live, domain-is}
 
 module _ (R : Rule) (C : ClockRule R) (c : Census) (m : List ℕ) (l : Streams) (K : Keeps R c m l) where
-  S : Stands R 255 (view c m) l
+  S : Stands R mostClocks (view c m) l
   S = K .stands
 
   -- a refused value has no streams
@@ -48,9 +48,9 @@ module _ (R : Rule) (C : ClockRule R) (c : Census) (m : List ℕ) (l : Streams) 
   no-streams v q e =
       number-none (R .same v) (λ s. by-bool (R .same v s) (λ y. clash (cc (G R C .first v s y, C .accepted v ∙ ap isAccepted e))) (λ y. y)) l
 
-  module _ (t : ltb (length m) 270000 ≡ false) (v w : Value) where
-    enough : 270000 ≤ length m
-    enough = ltb-false (length m) 270000 t
+  module _ (t : ltb (length m) leastMemory ≡ false) (v w : Value) where
+    enough : leastMemory ≤ length m
+    enough = ltb-false (length m) leastMemory t
 
     no-first : ofClock R v l ≡ 0 → answer R limits (length m) (join v w) l ≡ Refused NoStream
     unfolding reasons firstOf
@@ -72,22 +72,22 @@ module _ (R : Rule) (C : ClockRule R) (c : Census) (m : List ℕ) (l : Streams) 
         ej = found R C c m l K w into reads′ j s′ .holds hj
 
         ni : ofClock R v l ≡ streamsAt m i
-        ni = named-count R (G R C) 255 (view c m) l S v i hi ei
+        ni = named-count R (G R C) mostClocks (view c m) l S v i hi ei
 
         nj : ofClock R w l ≡ streamsAt m j
-        nj = named-count R (G R C) 255 (view c m) l S w j hj ej
+        nj = named-count R (G R C) mostClocks (view c m) l S w j hj ej
 
         si : 0 < streamsAt m i
-        si = named-streams R (G R C) 255 (view c m) l S v i hi ei
+        si = named-streams R (G R C) mostClocks (view c m) l S v i hi ei
 
         sj : 0 < streamsAt m j
-        sj = named-streams R (G R C) 255 (view c m) l S w j hj ej
+        sj = named-streams R (G R C) mostClocks (view c m) l S w j hj ej
 
         qi : R .same v (valueAt m i) ≡ true
-        qi = named-same R (G R C) 255 (view c m) l S v i hi ei
+        qi = named-same R (G R C) mostClocks (view c m) l S v i hi ei
 
         qj : R .same w (valueAt m j) ≡ true
-        qj = named-same R (G R C) 255 (view c m) l S w j hj ej
+        qj = named-same R (G R C) mostClocks (view c m) l S w j hj ej
 
         join-answer : answer R limits (length m) (join v w) l ≡ Done
         unfolding reasons firstOf
@@ -116,14 +116,14 @@ module _ (R : Rule) (C : ClockRule R) (c : Census) (m : List ℕ) (l : Streams) 
         abbrev both : ℕ
         both = plus (streamsAt m j) (streamsAt m i)
 
-        in-i : i * 1036 + 1036 ≤ length m
+        in-i : i * slotSize + slotSize ≤ length m
         in-i = omega (arith, enough, hi)
 
-        in-j : j * 1036 + 1036 ≤ length m
+        in-j : j * slotSize + slotSize ≤ length m
         in-j = omega (arith, enough, hj)
 
         size : length (addedMemory m i j) ≡ length m
-        size = length-sets m (j * 1036) (quad both)
+        size = length-sets m (j * slotSize) (quad both)
 
         join-prints : (i ≡ j → ⊥) → Prints (joinedMemory m i j) (usedIn c)
         join-prints x =
@@ -142,7 +142,7 @@ module _ (R : Rule) (C : ClockRule R) (c : Census) (m : List ℕ) (l : Streams) 
             ap (λ (x : Bool). cond x n 0) (domain-is R C c m l K w into reads′ d h) in
             let z : length (less (orNone (domainIn from)) n (c .domains)) ≡ 128 = less-size (orNone (domainIn from)) n (c .domains) ∙ K .each in
             let e₁ = less-count (orNone (domainIn from)) n d (c .domains) (K .each) h in
-            let bound : getD (less (orNone (domainIn from)) n (c .domains)) d 0 + n ≤ 4294967295 =
+            let bound : getD (less (orNone (domainIn from)) n (c .domains)) d 0 + n ≤ mostStreams =
             by-bool (hasDomain R d v)
             (λ y.
             let a = number-within (hasDomain R d) (R .same v) (λ x q. ap (is d) (sym (G R C .one-domain v x q)) ∙ y) l in
@@ -171,7 +171,7 @@ module _ (R : Rule) (C : ClockRule R) (c : Census) (m : List ℕ) (l : Streams) 
             (simp apart
             (record {
               stands =
-                  joins R (G R C) 255 (view c m) l S v w apart i j hi hj ei ej (view c m₁) (view c′ m₂) refl refl A₁ A₂ refl refl domain-moved;
+                  joins R (G R C) mostClocks (view c m) l S v w apart i j hi hj ei ej (view c m₁) (view c′ m₂) refl refl A₁ A₂ refl refl domain-moved;
               small = omega (arith, K .small, length-map (moved R v w) l);
               each =
                   more-size (orNone (domainIn into)) n (less (orNone (domainIn from)) n (c .domains))
@@ -195,11 +195,11 @@ module _ (R : Rule) (C : ClockRule R) (c : Census) (m : List ℕ) (l : Streams) 
           (λ q.
           let h = ltb-false j (usedIn c) q in
           right-refuse R C NoStream (simp (t, reads, reads′, p, q))
-          (no-second (unnamed-count R (G R C) 255 (view c m) l S w (λ x g. found R C c m l K w into reads′ j s′ .none x (omega arith)))) K))
+          (no-second (unnamed-count R (G R C) mostClocks (view c m) l S w (λ x g. found R C c m l K w into reads′ j s′ .none x (omega arith)))) K))
           (λ p.
           let h = ltb-false i (usedIn c) p in
           right-refuse R C NoStream (simp (t, reads, reads′, p))
-          (no-first (unnamed-count R (G R C) 255 (view c m) l S v (λ x g. found R C c m l K v from reads i s .none x (omega arith)))) K)
+          (no-first (unnamed-count R (G R C) mostClocks (view c m) l S v (λ x g. found R C c m l K v from reads i s .none x (omega arith)))) K)
 
     by-reading : (i j : ℕ) → SlotFor m v (usedIn c) i → SlotFor m w (usedIn c) j → (x y : ReferenceClockRead) → readReferenceClock v ≡ x
         → readReferenceClock w ≡ y → Right R C (joinOutcome c m v w i j) c m (join v w) l
@@ -211,6 +211,6 @@ module _ (R : Rule) (C : ClockRule R) (c : Census) (m : List ℕ) (l : Streams) 
   pub join-right : (v w : Value) (i j : ℕ) → SlotFor m v (usedIn c) i → SlotFor m w (usedIn c) j → Right R C (joinOutcome c m v w i j) c m (join v w) l
   unfolding joinOutcome
   join-right v w i j s u =
-      by-bool (ltb (length m) 270000)
+      by-bool (ltb (length m) leastMemory)
       (λ t. right-refuse R C NoMemory (simp t) (short-answer R C m (join v w) l t) K)
       (λ t. by-reading t v w i j s u (readReferenceClock v) (readReferenceClock w) refl refl)

@@ -14,7 +14,7 @@ use Rattle.clock.specs.declared.ReferenceClockRead.the-variants as read
 use Rattle.meaning.specs.ReferenceClock.{readReferenceClock}
 use Rattle.meaning.specs.Meaning.{refMeaning}
 use Rattle.streams.specs.Rule.{Value, Rule}
-use Rattle.streams.specs.Limits.{limits}
+use Rattle.streams.specs.Limits.{limits, mostClocks}
 use Rattle.streams.specs.Streams.{Streams, numberOf, ofClock, refusedIn, clocksIn}
 use Rattle.streams.specs.Sums.{sum}
 use Rattle.streams.specs.Calls.{Call, count, withdraw, join, answer, after, countedBy, withdrawnBy}
@@ -118,14 +118,14 @@ module _ (R : Rule) (C : ClockRule R) where
         by-bool (ltb i (usedIn c))
         (λ t.
         let h = ltb-true i (usedIn c) t in
-        simp t (sym (named-count R (G R C) 255 (view c m) l (K .stands) v i h (f .holds h))))
+        simp t (sym (named-count R (G R C) mostClocks (view c m) l (K .stands) v i h (f .holds h))))
         (λ t.
         let h = ltb-false i (usedIn c) t in
-        simp t (sym (unnamed-count R (G R C) 255 (view c m) l (K .stands) v (λ j g. f .none j (omega arith)))))
+        simp t (sym (unnamed-count R (G R C) mostClocks (view c m) l (K .stands) v (λ j g. f .none j (omega arith)))))
 
     sum-right : streamSum m (usedIn c) + c .refused ≡ length l
     unfolding streamSum
-    sum-right = clock-sum R (G R C) 255 (view c m) l (K .stands)
+    sum-right = clock-sum R (G R C) mostClocks (view c m) l (K .stands)
 
     questions-right : QuestionsAsked R c m l
     unfolding domainCount takenSlots
@@ -134,7 +134,7 @@ module _ (R : Rule) (C : ClockRule R) where
           streams = λ v r a.
               let s = slot-for m v (usedIn c) in
               a .is (s .0) (s .1) ∙ ap (asked m) (streams-right v (s .0) (s .1) (readReferenceClock v) refl);
-          clocks = standing R (G R C) 255 (view c m) l (K .stands);
+          clocks = standing R (G R C) mostClocks (view c m) l (K .stands);
           clock-sum = omega (arith, sum-right, K .stands .refused, list-parts R l);
           domain = λ d h. simp (lt-ltb d 128 h) (K .stands .domains d h);
           refused = K .stands .refused;

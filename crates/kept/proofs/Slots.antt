@@ -18,7 +18,7 @@ use Rattle.equal.proofs.Shared.{fingerprint-small}
 use Rattle.streams.proofs.Book.{Altered}
 use Rattle.quads.specs.Quad.{quad}
 use Rattle.quads.proofs.Windows.{quad-length}
-use Rattle.slots.specs.Slot.{slotBytes, streamsAt, printAt, valueAt, isFree}
+use Rattle.slots.specs.Slot.{slotSize, slotBytes, streamsAt, printAt, valueAt, isFree}
 use Rattle.slots.proofs.Change.{other-streams, other-print, other-value, recounted-streams, recounted-print, recounted-value}
 use Rattle.slots.proofs.Change.{bytes-length, new-streams, new-print, new-value}
 use Rattle.counts.specs.declared.Census.{Census}
@@ -32,11 +32,11 @@ print-carried m m′ j ep ev p k e =
     ep ∙ p k (ap readReferenceClock (sym ev) ∙ e) ∙ ap (λ (v : List ℕ). fingerprint hostPrint (refMeaning v k)) (sym ev)
 
 -- a slot gets another number of streams
-module _ (m : List ℕ) (i n : ℕ) (inside : i * 1036 + 1036 ≤ length m) where
+module _ (m : List ℕ) (i n : ℕ) (inside : i * slotSize + slotSize ≤ length m) where
   abbrev recounted : List ℕ
-  recounted = sets m (i * 1036) (quad n)
+  recounted = sets m (i * slotSize) (quad n)
 
-  short : length (quad n) ≤ 1036
+  short : length (quad n) ≤ slotSize
   short = omega (arith, quad-length n)
 
   pub recounts : (c c′ : Census) → n < 4294967296 → (k : ℕ) → n ≡ k → Altered (view c m) (view c′ recounted) i (valueAt m i) k
@@ -60,15 +60,15 @@ module _ (m : List ℕ) (i n : ℕ) (inside : i * 1036 + 1036 ≤ length m) wher
       (p j g (ap (λ (y : ℕ). eqb y 0) (sym (other-streams m i (quad n) short j x)) ∙ f)))
 
 -- or becomes that of a clock
-module _ (m : List ℕ) (i : ℕ) (v : List ℕ) (k : ReferenceClock) (reads : readReferenceClock v ≡ Accepted k) (inside : i * 1036 + 1036 ≤ length m)
+module _ (m : List ℕ) (i : ℕ) (v : List ℕ) (k : ReferenceClock) (reads : readReferenceClock v ≡ Accepted k) (inside : i * slotSize + slotSize ≤ length m)
     (fits : length v ≤ 1024) where
   abbrev print : ℕ
   print = fingerprint hostPrint (refMeaning v k)
 
   abbrev renewed : List ℕ
-  renewed = sets m (i * 1036) (slotBytes 1 print v)
+  renewed = sets m (i * slotSize) (slotBytes 1 print v)
 
-  whole : length (slotBytes 1 print v) ≤ 1036
+  whole : length (slotBytes 1 print v) ≤ slotSize
   whole = omega (arith, bytes-length m i 1 print v inside fits)
 
   pub renews : (c c′ : Census) → Altered (view c m) (view c′ renewed) i v 1

@@ -16,7 +16,7 @@ use Rattle.clock.specs.declared.ReferenceClockRead.the-variants as read
 use Rattle.meaning.specs.ReferenceClock.{readReferenceClock}
 use Rattle.meaning.specs.Meaning.{refMeaning}
 use Rattle.streams.specs.Rule.{Value, Rule}
-use Rattle.streams.specs.Limits.{limits}
+use Rattle.streams.specs.Limits.{limits, leastMemory, mostClocks}
 use Rattle.streams.specs.Streams.{Streams, numberOf, without, isRefused, refusedIn, ofClock, like}
 use Rattle.streams.specs.Calls.{withdraw, firstOf, reasons, answer, next}
 use Rattle.streams.specs.declared.Uncounted.the-variants.{NoMemory, NoStream}
@@ -28,7 +28,7 @@ use Rattle.streams.proofs.Book.{Altered, named-streams, named-count, unnamed-co
 use Rattle.naming.specs.Domain.{orNone, domainIn}
 use Rattle.naming.specs.ClockRule.{isAccepted, ClockRule}
 use Rattle.quads.specs.Quad.{quad}
-use Rattle.slots.specs.Slot.{streamsAt, valueAt}
+use Rattle.slots.specs.Slot.{slotSize, streamsAt, valueAt}
 use Rattle.slots.specs.Find.{SlotOf, SlotFor}
 use Rattle.counts.specs.State.{census, usedIn, less, oneLess}
 use Rattle.counts.specs.declared.Census.{Census}
@@ -39,12 +39,12 @@ use Rattle.kept.proofs.Slots.{recounts, prints-recounted}
 use Rattle.kept.proofs.Found.{G, is-accepted, Right, right-refuse, right-leave, short-answer, long-answer, found, not-live, one-less}
 
 module _ (R : Rule) (C : ClockRule R) (c : Census) (m : List ℕ) (l : Streams) (K : Keeps R c m l) where
-  S : Stands R 255 (view c m) l
+  S : Stands R mostClocks (view c m) l
   S = K .stands
 
-  module _ (t : ltb (length m) 270000 ≡ false) (v : Value) where
-    enough : 270000 ≤ length m
-    enough = ltb-false (length m) 270000 t
+  module _ (t : ltb (length m) leastMemory ≡ false) (v : Value) where
+    enough : leastMemory ≤ length m
+    enough = ltb-false (length m) leastMemory t
 
     some-answer : 0 < numberOf (like R v) l → answer R limits (length m) (withdraw v) l ≡ Done
     unfolding reasons firstOf
@@ -69,7 +69,7 @@ module _ (R : Rule) (C : ClockRule R) (c : Census) (m : List ℕ) (l : Streams) 
         right-leave R C c′ m (simp (t, e, z)) (some-answer (omega arith))
         (rw (without-alike (like R v) (isRefused R) (λ s. simp a) l)
         (record {
-          stands = withdraws-refused R (G R C) 255 (view c m) l S y (view c′ m) refl (λ j h. (refl, refl)) refl refl (λ d h. refl);
+          stands = withdraws-refused R (G R C) mostClocks (view c m) l S y (view c′ m) refl (λ j h. (refl, refl)) refl refl (λ d h. refl);
           small = omega (arith, K .small, length-without (isRefused R) l some);
           each = K .each;
           used = K .used;
@@ -87,24 +87,24 @@ module _ (R : Rule) (C : ClockRule R) (c : Census) (m : List ℕ) (l : Streams) 
       withdraw-none : usedIn c ≤ i → Right R C (withdrawOutcome c m v i) c m (withdraw v) l
       unfolding withdrawOutcome withdrawClock
       withdraw-none h =
-          let n = unnamed-count R (G R C) 255 (view c m) l S v (λ j g. found R C c m l K v k reads i s .none j (omega arith)) in
+          let n = unnamed-count R (G R C) mostClocks (view c m) l S v (λ j g. found R C c m l K v k reads i s .none j (omega arith)) in
           right-refuse R C NoStream (simp (t, reads, le-ltb i (usedIn c) h)) (none-answer (same ∙ n)) K
 
       withdraw-one : i < usedIn c → Right R C (withdrawOutcome c m v i) c m (withdraw v) l
       unfolding withdrawOutcome withdrawClock withdrawKnown oneLess next
       withdraw-one h =
           let e = found R C c m l K v k reads i s .holds h in
-          let n = named-count R (G R C) 255 (view c m) l S v i h e in
-          let o = named-streams R (G R C) 255 (view c m) l S v i h e in
+          let n = named-count R (G R C) mostClocks (view c m) l S v i h e in
+          let o = named-streams R (G R C) mostClocks (view c m) l S v i h e in
           let c′ = oneLess (orNone (domainIn k)) c in
-          let m′ = sets m (i * 1036) (quad (streamsAt m i - 1)) in
-          let in-i : i * 1036 + 1036 ≤ length m = omega (arith, enough) in
+          let m′ = sets m (i * slotSize) (quad (streamsAt m i - 1)) in
+          let in-i : i * slotSize + slotSize ≤ length m = omega (arith, enough) in
           let some : 0 < ofClock R v l = omega arith in
           right-leave R C c′ m′ (simp (t, reads, lt-ltb i (usedIn c) h)) (some-answer (omega (arith, same)))
           (rw (without-alike (like R v) (R .same v) (λ s. simp a) l)
           (record {
             stands =
-                withdraws R (G R C) 255 (view c m) l S v i h e (view c′ m′) refl
+                withdraws R (G R C) mostClocks (view c m) l S v i h e (view c′ m′) refl
                 (recounts m i (streamsAt m i - 1) in-i c c′ (omega (arith, n, number-most (R .same v) l, K .small)) (streamsAt m i - 1) refl)
                 refl refl (one-less R C c m l K v k reads);
             small = omega (arith, K .small, length-without (R .same v) l some);
@@ -127,6 +127,6 @@ module _ (R : Rule) (C : ClockRule R) (c : Census) (m : List ℕ) (l : Streams) 
   pub withdraw-right : (v : Value) (i : ℕ) → SlotFor m v (usedIn c) i → Right R C (withdrawOutcome c m v i) c m (withdraw v) l
   unfolding withdrawOutcome
   withdraw-right v i s =
-      by-bool (ltb (length m) 270000)
+      by-bool (ltb (length m) leastMemory)
       (λ t. right-refuse R C NoMemory (simp t) (short-answer R C m (withdraw v) l t) K)
       (λ t. by-reading t v i s (readReferenceClock v) refl)

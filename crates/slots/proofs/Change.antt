@@ -16,60 +16,60 @@ use Rattle.slots.specs.Slot.{slotSize, mostValue, slotBytes, streamsAt, 
 
 -- a text of at most a slot's length is stored at the slot i: the bytes of another are what they were
 module _ (m : List ℕ) (i : ℕ) (t : List ℕ) (short : length t ≤ slotSize) (j : ℕ) (x : j ≡ i → ⊥) where
-  other-bytes : (p n : ℕ) → j * 1036 ≤ p → p + n ≤ j * 1036 + 1036 → bytesAt (place p n) (sets m (i * 1036) t) ≡ bytesAt (place p n) m
+  other-bytes : (p n : ℕ) → j * slotSize ≤ p → p + n ≤ j * slotSize + slotSize → bytesAt (place p n) (sets m (i * slotSize) t) ≡ bytesAt (place p n) m
   other-bytes p n low high =
       by-bool (ltb j i)
-      (λ y. let h = ltb-true j i y in stored-before p n (i * 1036) m t (omega arith))
+      (λ y. let h = ltb-true j i y in stored-before p n (i * slotSize) m t (omega arith))
       (λ y.
       let h = ltb-false j i y in
       let less : i < j = by-bool (ltb i j) (λ q. ltb-true i j q) (λ q. absurd (x (let r = ltb-false i j q in omega arith))) in
-      stored-behind p n (i * 1036) m t (omega arith))
+      stored-behind p n (i * slotSize) m t (omega arith))
 
-  other-number : (p : ℕ) → j * 1036 ≤ p → p + 4 ≤ j * 1036 + 1036 → numberAt (sets m (i * 1036) t) p ≡ numberAt m p
+  other-number : (p : ℕ) → j * slotSize ≤ p → p + 4 ≤ j * slotSize + slotSize → numberAt (sets m (i * slotSize) t) p ≡ numberAt m p
   unfolding numberAt
   other-number p low high = ap quadOf (other-bytes p 4 low high)
 
-  pub other-streams : streamsAt (sets m (i * 1036) t) j ≡ streamsAt m j
+  pub other-streams : streamsAt (sets m (i * slotSize) t) j ≡ streamsAt m j
   unfolding streamsAt
-  other-streams = other-number (j * 1036) (omega arith) (omega arith)
+  other-streams = other-number (j * slotSize) (omega arith) (omega arith)
 
-  pub other-print : printAt (sets m (i * 1036) t) j ≡ printAt m j
+  pub other-print : printAt (sets m (i * slotSize) t) j ≡ printAt m j
   unfolding printAt
-  other-print = other-number (j * 1036 + 4) (omega arith) (omega arith)
+  other-print = other-number (j * slotSize + 4) (omega arith) (omega arith)
 
-  pub other-value : valueAt (sets m (i * 1036) t) j ≡ valueAt m j
+  pub other-value : valueAt (sets m (i * slotSize) t) j ≡ valueAt m j
   unfolding valueAt valuePlace
   other-value =
-      ap (λ (n : ℕ). bytesAt (place (j * 1036 + 12) (min n 1024)) (sets m (i * 1036) t)) (other-number (j * 1036 + 8) (omega arith) (omega arith))
-      ∙ other-bytes (j * 1036 + 12) (min (numberAt m (j * 1036 + 8)) 1024) (omega arith) (omega arith)
+      ap (λ (n : ℕ). bytesAt (place (j * slotSize + 12) (min n mostValue)) (sets m (i * slotSize) t)) (other-number (j * slotSize + 8) (omega arith) (omega arith))
+      ∙ other-bytes (j * slotSize + 12) (min (numberAt m (j * slotSize + 8)) mostValue) (omega arith) (omega arith)
 
 -- the slot i gets another number of streams
-module _ (m : List ℕ) (i n : ℕ) (inside : i * 1036 + 1036 ≤ length m) where
-  pub recounted-streams : n < 4294967296 → streamsAt (sets m (i * 1036) (quad n)) i ≡ n
+module _ (m : List ℕ) (i n : ℕ) (inside : i * slotSize + slotSize ≤ length m) where
+  pub recounted-streams : n < 4294967296 → streamsAt (sets m (i * slotSize) (quad n)) i ≡ n
   unfolding streamsAt
   recounted-streams small =
-      let z : i * 1036 ≡ i * 1036 + 0 = omega arith in
+      let z : i * slotSize ≡ i * slotSize + 0 = omega arith in
       let l : length (quad n ++ []) ≡ 4 = ap length (append-nil (quad n)) ∙ quad-length n in
-      ap (λ (t : List ℕ). numberAt (sets m (i * 1036) t) (i * 1036)) (sym (append-nil (quad n)))
-      ∙ ap (numberAt (sets m (i * 1036) (quad n ++ []))) z
-      ∙ number-inside 0 n (i * 1036) m [] [] (omega (arith, l)) refl small
+      ap (λ (t : List ℕ). numberAt (sets m (i * slotSize) t) (i * slotSize)) (sym (append-nil (quad n)))
+      ∙ ap (numberAt (sets m (i * slotSize) (quad n ++ []))) z
+      ∙ number-inside 0 n (i * slotSize) m [] [] (omega (arith, l)) refl small
 
-  four : (p : ℕ) → i * 1036 + 4 ≤ p → i * 1036 + length (quad n) ≤ p
+  four : (p : ℕ) → i * slotSize + 4 ≤ p → i * slotSize + length (quad n) ≤ p
   four p h = omega (arith, quad-length n)
 
-  pub recounted-print : printAt (sets m (i * 1036) (quad n)) i ≡ printAt m i
+  pub recounted-print : printAt (sets m (i * slotSize) (quad n)) i ≡ printAt m i
   unfolding printAt
-  recounted-print = number-behind-it (i * 1036 + 4) (i * 1036) m (quad n) (four (i * 1036 + 4) (omega arith))
+  recounted-print = number-behind-it (i * slotSize + 4) (i * slotSize) m (quad n) (four (i * slotSize + 4) (omega arith))
 
-  pub recounted-value : valueAt (sets m (i * 1036) (quad n)) i ≡ valueAt m i
+  pub recounted-value : valueAt (sets m (i * slotSize) (quad n)) i ≡ valueAt m i
   unfolding valueAt valuePlace
   recounted-value =
-      ap (λ (k : ℕ). bytesAt (place (i * 1036 + 12) (min k 1024)) (sets m (i * 1036) (quad n)))
-      (number-behind-it (i * 1036 + 8) (i * 1036) m (quad n) (four (i * 1036 + 8) (omega arith)))
-      ∙ stored-behind (i * 1036 + 12) (min (numberAt m (i * 1036 + 8)) 1024) (i * 1036) m (quad n) (four (i * 1036 + 12) (omega arith))
+      ap (λ (k : ℕ). bytesAt (place (i * slotSize + 12) (min k mostValue)) (sets m (i * slotSize) (quad n)))
+      (number-behind-it (i * slotSize + 8) (i * slotSize) m (quad n) (four (i * slotSize + 8) (omega arith)))
+      ∙ stored-behind (i * slotSize + 12) (min (numberAt m (i * slotSize + 8)) mostValue) (i * slotSize) m (quad n) (four (i * slotSize + 12) (omega arith))
 
 -- the slot i becomes that of the value v
-module _ (m : List ℕ) (i n p : ℕ) (v : List ℕ) (inside : i * 1036 + 1036 ≤ length m) (short : length v ≤ 1024) where
+module _ (m : List ℕ) (i n p : ℕ) (v : List ℕ) (inside : i * slotSize + slotSize ≤ length m) (short : length v ≤ mostValue) where
   -- the bytes of a slot, with each number apart
   bytes-first : slotBytes n p v ≡ [] ++ (quad n ++ (quad p ++ (quad (length v) ++ v)))
   unfolding slotBytes quad
@@ -88,29 +88,29 @@ module _ (m : List ℕ) (i n p : ℕ) (v : List ℕ) (inside : i * 1036 + 1036 �
   bytes-length = omega arith
 
   abbrev stored : List ℕ
-  stored = sets m (i * 1036) (slotBytes n p v)
+  stored = sets m (i * slotSize) (slotBytes n p v)
 
-  within : (t : List ℕ) → slotBytes n p v ≡ t → i * 1036 + length t ≤ length m
+  within : (t : List ℕ) → slotBytes n p v ≡ t → i * slotSize + length t ≤ length m
   within t e = omega (arith, sym (ap length e), bytes-length)
 
   pub new-streams : n < 4294967296 → streamsAt stored i ≡ n
   unfolding streamsAt
   new-streams small =
-      let z : i * 1036 ≡ i * 1036 + 0 = omega arith in
-      ap (λ (t : List ℕ). numberAt (sets m (i * 1036) t) (i * 1036)) bytes-first
-      ∙ ap (numberAt (sets m (i * 1036) ([] ++ (quad n ++ (quad p ++ (quad (length v) ++ v)))))) z
-      ∙ number-inside 0 n (i * 1036) m [] (quad p ++ (quad (length v) ++ v)) (within _ bytes-first) refl small
+      let z : i * slotSize ≡ i * slotSize + 0 = omega arith in
+      ap (λ (t : List ℕ). numberAt (sets m (i * slotSize) t) (i * slotSize)) bytes-first
+      ∙ ap (numberAt (sets m (i * slotSize) ([] ++ (quad n ++ (quad p ++ (quad (length v) ++ v)))))) z
+      ∙ number-inside 0 n (i * slotSize) m [] (quad p ++ (quad (length v) ++ v)) (within _ bytes-first) refl small
 
   pub new-print : p < 4294967296 → printAt stored i ≡ p
   unfolding printAt
   new-print small =
-      ap (λ (t : List ℕ). numberAt (sets m (i * 1036) t) (i * 1036 + 4)) bytes-second
-      ∙ number-inside 4 p (i * 1036) m (quad n) (quad (length v) ++ v) (within _ bytes-second) (quad-length n) small
+      ap (λ (t : List ℕ). numberAt (sets m (i * slotSize) t) (i * slotSize + 4)) bytes-second
+      ∙ number-inside 4 p (i * slotSize) m (quad n) (quad (length v) ++ v) (within _ bytes-second) (quad-length n) small
 
-  new-length : numberAt stored (i * 1036 + 8) ≡ length v
+  new-length : numberAt stored (i * slotSize + 8) ≡ length v
   new-length =
-      ap (λ (t : List ℕ). numberAt (sets m (i * 1036) t) (i * 1036 + 8)) bytes-third
-      ∙ number-inside 8 (length v) (i * 1036) m (quad n ++ quad p) v (within _ bytes-third)
+      ap (λ (t : List ℕ). numberAt (sets m (i * slotSize) t) (i * slotSize + 8)) bytes-third
+      ∙ number-inside 8 (length v) (i * slotSize) m (quad n ++ quad p) v (within _ bytes-third)
       (length-append (quad n) (quad p) ∙ two (quad-length n) (quad-length p)) (omega arith)
     where
       two : {a b : ℕ} → a ≡ 4 → b ≡ 4 → a + b ≡ 8
@@ -123,7 +123,7 @@ module _ (m : List ℕ) (i n p : ℕ) (v : List ℕ) (inside : i * 1036 + 1036 �
   pub new-value : valueAt stored i ≡ v
   unfolding valueAt valuePlace
   new-value =
-      let l : min (numberAt stored (i * 1036 + 8)) 1024 ≡ length v = omega (arith, new-length) in
-      ap (λ (k : ℕ). bytesAt (place (i * 1036 + 12) k) stored) l
-      ∙ stored-inside 12 (length v) (i * 1036) m (slotBytes n p v) (omega (arith, bytes-length)) (omega (arith, bytes-length))
+      let l : min (numberAt stored (i * slotSize + 8)) mostValue ≡ length v = omega (arith, new-length) in
+      ap (λ (k : ℕ). bytesAt (place (i * slotSize + 12) k) stored) l
+      ∙ stored-inside 12 (length v) (i * slotSize) m (slotBytes n p v) (omega (arith, bytes-length)) (omega (arith, bytes-length))
       ∙ bytes-last

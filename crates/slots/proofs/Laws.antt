@@ -34,7 +34,7 @@ use Rattle.slots.specs.Find.{OfClock, SlotOf}
 use Rattle.slots.specs.Private.Start.{Start}
 
 -- where a slot begins
-pub starts-there : (i : ℕ) → i < 65536 → Start i (i * 1036)
+pub starts-there : (i : ℕ) → i < 65536 → Start i (i * slotSize)
 starts-there i h = record { is = refl; low = omega arith }
 
 pub streams-there : (m : List ℕ) (i at r : ℕ) → Start i at → r ≡ numberAt m at → r ≡ streamsAt m i
@@ -42,12 +42,12 @@ unfolding streamsAt
 streams-there m i at r s e = e ∙ ap (numberAt m) (s .is)
 
 -- `value_at`
-pub value-there : (e r : Lent) (i at told len : ℕ) → Start i at → told ≡ numberAt (e .now) (at + 8) → len ≡ min told 1024
+pub value-there : (e r : Lent) (i at told len : ℕ) → Start i at → told ≡ numberAt (e .now) (at + 8) → len ≡ min told mostValue
     → PartAt e (place (at + 12) len) r → PartAt e (valuePlace (e .now) i) r
 unfolding valuePlace
 value-there e r i at told len s t l p =
-    let q : len ≡ min (numberAt (e .now) (i * 1036 + 8)) 1024 = l ∙ ap (λ (n : ℕ). min n 1024) (t ∙ ap (λ (n : ℕ). numberAt (e .now) (n + 8)) (s .is)) in
-    let w : place (at + 12) len ≡ place (i * 1036 + 12) (min (numberAt (e .now) (i * 1036 + 8)) 1024) = cc (q, s .is) in
+    let q : len ≡ min (numberAt (e .now) (i * slotSize + 8)) mostValue = l ∙ ap (λ (n : ℕ). min n mostValue) (t ∙ ap (λ (n : ℕ). numberAt (e .now) (n + 8)) (s .is)) in
+    let w : place (at + 12) len ≡ place (i * slotSize + 12) (min (numberAt (e .now) (i * slotSize + 8)) mostValue) = cc (q, s .is) in
     rw w at p
 
 -- `is_of_clock`
@@ -157,25 +157,25 @@ module _ (m : List ℕ) (n : ℕ) where
           }
 
 -- `set_streams`, `set_slot`
-pub streams-set : (m m′ : List ℕ) (i at n r : ℕ) → Start i at → Put 4 m at (quad n) r m′ → m′ ≡ sets m (i * 1036) (quad n)
+pub streams-set : (m m′ : List ℕ) (i at n r : ℕ) → Start i at → Put 4 m at (quad n) r m′ → m′ ≡ sets m (i * slotSize) (quad n)
 streams-set m m′ i at n r s p = p .bytes ∙ ap (λ (k : ℕ). sets m k (quad n)) (s .is)
 
-pub slot-put : (n p : ℕ) (v : List ℕ) {at second third fourth last : ℕ} {l x y z w : List ℕ} → length v ≤ 1024
+pub slot-put : (n p : ℕ) (v : List ℕ) {at second third fourth last : ℕ} {l x y z w : List ℕ} → length v ≤ mostValue
     → Put 4 l at (quad n) second x → Put 4 x second (quad p) third y → Put 4 y third (quad (length v)) fourth z → Put (length v) z fourth v last w
-    → Put 1036 l at (slotBytes n p v) last w
+    → Put slotSize l at (slotBytes n p v) last w
 unfolding slotBytes
 slot-put n p v h a b c d = put-wider (put-then (put-then (put-then a b) c) d) (omega arith)
 
-pub part-short : (v w : Lent) → PartAt v (place 0 1024) w → length (w .now) ≤ 1024
+pub part-short : (v w : Lent) → PartAt v (place 0 mostValue) w → length (w .now) ≤ mostValue
 unfolding bytesAt
-part-short v w p = let e : length (w .now) ≡ min 1024 (length (v .now)) = ap length (p .bytes) ∙ length-take 1024 (v .now) in omega arith
+part-short v w p = let e : length (w .now) ≡ min mostValue (length (v .now)) = ap length (p .bytes) ∙ length-take mostValue (v .now) in omega arith
 
-pub slot-set : (m m′ : List ℕ) (v w : Lent) (i at p n r : ℕ) → Start i at → PartAt v (place 0 1024) w → Put 1036 m at (slotBytes n p (w .now)) r m′
-    → m′ ≡ sets m (i * 1036) (slotBytes n p (take 1024 (v .now)))
+pub slot-set : (m m′ : List ℕ) (v w : Lent) (i at p n r : ℕ) → Start i at → PartAt v (place 0 mostValue) w → Put slotSize m at (slotBytes n p (w .now)) r m′
+    → m′ ≡ sets m (i * slotSize) (slotBytes n p (take mostValue (v .now)))
 unfolding bytesAt
 slot-set m m′ v w i at p n r s e q =
     q .bytes ∙ ap (λ (k : ℕ). sets m k (slotBytes n p (w .now))) (s .is)
-    ∙ ap (λ (t : List ℕ). sets m (i * 1036) (slotBytes n p t)) (e .bytes)
+    ∙ ap (λ (t : List ℕ). sets m (i * slotSize) (slotBytes n p t)) (e .bytes)
 
 -- `taken`
 module _ (m : List ℕ) (i r : ℕ) (q : r ≡ streamsAt m i) where

@@ -29,6 +29,10 @@ unfoldable pub firstOf : List (Bool × Uncounted) → Verdict
 firstOf [] = Done
 firstOf (reason ∷ others) = cond (reason .0) (Refused (reason .1)) (firstOf others)
 
+abbrev pub isDone : Verdict → Bool
+isDone Done = true
+isDone (Refused why) = false
+
 module _ (R : Rule) (L : Limits) where
   -- whether a stream of this value has a clock that is there, or can have one, or needs none
   abbrev pub fits : Value → Streams → Bool
@@ -49,10 +53,6 @@ module _ (R : Rule) (L : Limits) where
   next (count v) l = v ∷ l
   next (withdraw v) l = without (like R v) l
   next (join a b) l = joined R a b l
-
-  abbrev pub isDone : Verdict → Bool
-  isDone Done = true
-  isDone (Refused why) = false
 
   -- and after any call: one that is refused changes nothing
   unfoldable pub after : ℕ → Call → Streams → Streams

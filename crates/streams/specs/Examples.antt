@@ -67,6 +67,7 @@ numbers : Each (λ (p : ℕ × List Call). answers (p .0) [] (p .1)) (
     ∷ (10, count x ∷ count y ∷ join x y ∷ count z ∷ []) gives (0 ∷ 0 ∷ 0 ∷ 0 ∷ [])
     ∷ (10, withdraw x ∷ withdraw refused ∷ join x x ∷ []) gives (27 ∷ 27 ∷ 27 ∷ [])
     ∷ (10, count x ∷ join x x ∷ join x y ∷ join y x ∷ join x refused ∷ join refused x ∷ []) gives (0 ∷ 0 ∷ 27 ∷ 27 ∷ 27 ∷ 27 ∷ [])
+    ∷ (10, count x ∷ count y ∷ join x y ∷ withdraw x ∷ withdraw y ∷ withdraw y ∷ withdraw y ∷ []) gives (0 ∷ 0 ∷ 0 ∷ 27 ∷ 0 ∷ 0 ∷ 27 ∷ [])
     ∷ (10, count refused ∷ withdraw x ∷ withdraw refused ∷ withdraw refused ∷ []) gives (0 ∷ 27 ∷ 0 ∷ 27 ∷ [])
     ∷ [])
 unfolding answers answer firstOf reasons refusalNumber after next numberOf without clocksIn joined
@@ -82,6 +83,7 @@ questions : Each (λ (cs : List Call). counts (left [] cs)) (
     [] gives (0 ∷ 0 ∷ 0 ∷ 0 ∷ 0 ∷ 0 ∷ [])
     ∷ (count x ∷ count y ∷ count x ∷ []) gives (2 ∷ 1 ∷ 2 ∷ 1 ∷ 0 ∷ 2 ∷ [])
     ∷ (count x ∷ count y ∷ count x ∷ join x y ∷ []) gives (0 ∷ 3 ∷ 0 ∷ 3 ∷ 0 ∷ 1 ∷ [])
+    ∷ (count x ∷ count y ∷ count x ∷ withdraw x ∷ []) gives (1 ∷ 1 ∷ 1 ∷ 1 ∷ 0 ∷ 2 ∷ [])
     ∷ (count x ∷ count refused ∷ count z ∷ withdraw y ∷ []) gives (1 ∷ 0 ∷ 1 ∷ 0 ∷ 1 ∷ 2 ∷ [])
     ∷ (count x ∷ count y ∷ count z ∷ join z x ∷ []) gives (1 ∷ 1 ∷ 1 ∷ 1 ∷ 0 ∷ 2 ∷ [])
     ∷ [])

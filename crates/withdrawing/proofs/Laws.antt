@@ -14,10 +14,11 @@ use Rattle.clock.specs.declared.ReferenceClockRead.{ReferenceClockRead}
 use Rattle.clock.specs.declared.ReferenceClockRead.the-variants.{Accepted, Refused}
 use Rattle.meaning.specs.ReferenceClock.{readReferenceClock}
 use Rattle.meaning.specs.Meaning.{refMeaning}
+use Rattle.streams.specs.Limits.{leastMemory}
 use Rattle.streams.specs.declared.Uncounted.the-variants.{NoMemory, NoStream}
 use Rattle.naming.specs.Domain.{orNone, domainIn}
 use Rattle.quads.specs.Quad.{quad}
-use Rattle.slots.specs.Slot.{streamsAt}
+use Rattle.slots.specs.Slot.{slotSize, streamsAt}
 use Rattle.slots.specs.Find.{SlotOf}
 use Rattle.slots.proofs.Slots.{slot-settled}
 use Rattle.counts.specs.State.{census, usedIn, oneLess}
@@ -30,11 +31,11 @@ use Rattle.withdrawing.specs.Private.Clock.{WithdrawsClock}
 
 -- `withdraw_known`
 pub known-done : (c : Census) (m : List ℕ) (k : ReferenceClock) (i n p : ℕ) → n ≡ streamsAt m i → p ≡ n - 1
-    → (m′ : List ℕ) → m′ ≡ sets m (i * 1036) (quad p) → (a : Census) → a ≡ oneLess (orNone (domainIn k)) c → (r : Called) → r ≡ doneWith a
+    → (m′ : List ℕ) → m′ ≡ sets m (i * slotSize) (quad p) → (a : Census) → a ≡ oneLess (orNone (domainIn k)) c → (r : Called) → r ≡ doneWith a
     → Does (withdrawKnown c m k i) c m r m′
 unfolding withdrawKnown
 known-done c m k i n p en ep m′ em a ea r er =
-    does-leave refl (er ∙ ap doneWith ea) (em ∙ ap (λ (x : ℕ). sets m (i * 1036) (quad x)) (ep ∙ ap (λ (x : ℕ). x - 1) en))
+    does-leave refl (er ∙ ap doneWith ea) (em ∙ ap (λ (x : ℕ). sets m (i * slotSize) (quad x)) (ep ∙ ap (λ (x : ℕ). x - 1) en))
 
 -- `withdraw_clock`
 module _ (c : Census) (m v : List ℕ) (k : ReferenceClock) (u : ℕ) (eu : u ≡ usedIn c) (i : ℕ) (s : SlotOf m (refMeaning v k) u i) where
@@ -66,11 +67,11 @@ module _ (c : Census) where
 
 -- `withdraw`
 module _ (c : Census) (m v : List ℕ) where
-  pub withdraw-short : length m < 270000 → (r : Called) → r ≡ refusedWith c NoMemory → Withdraws c m v r m
+  pub withdraw-short : length m < leastMemory → (r : Called) → r ≡ refusedWith c NoMemory → Withdraws c m v r m
   unfolding withdrawOutcome
-  withdraw-short h r e = record { does = λ i s. does-refuse (simp (lt-ltb (length m) 270000 h)) e }
+  withdraw-short h r e = record { does = λ i s. does-refuse (simp (lt-ltb (length m) leastMemory h)) e }
 
-  module _ (h : 270000 ≤ length m) (x : ReferenceClockRead) (ex : x ≡ readReferenceClock v) where
+  module _ (h : leastMemory ≤ length m) (x : ReferenceClockRead) (ex : x ≡ readReferenceClock v) where
     pub withdraw-refused : (q : Refusal) → x ≡ Refused q → (r : Called) → r ≡ calledWith (withdrawRefused c []) c → Withdraws c m v r m
     unfolding withdrawOutcome withdrawRefused
     withdraw-refused q e r er =
@@ -78,18 +79,18 @@ module _ (c : Census) (m v : List ℕ) where
           does = λ i s.
               by-bool (eqb (c .refused) 0)
               (λ z.
-              let o : withdrawOutcome c m v i ≡ refuses NoStream = simp (le-ltb (length m) 270000 h, ← ex, e, z) in
+              let o : withdrawOutcome c m v i ≡ refuses NoStream = simp (le-ltb (length m) leastMemory h, ← ex, e, z) in
               does-refuse o (er ∙ simp z))
               (λ z.
               let o : withdrawOutcome c m v i ≡ leaves (census (c .used) (c .total - 1) (c .refused - 1) (c .domains)) m =
-              simp (le-ltb (length m) 270000 h, ← ex, e, z) in
+              simp (le-ltb (length m) leastMemory h, ← ex, e, z) in
               does-leave o (er ∙ simp z) refl);
         }
 
     pub withdraw-accepted : (a : ReferenceClock) → x ≡ Accepted a → (r : Called) (m′ : List ℕ) → WithdrawsClock c m v a r m′ → Withdraws c m v r m′
     unfolding withdrawOutcome
     withdraw-accepted a e r m′ w =
-        record { does = λ i s. does-same (simp (le-ltb (length m) 270000 h, ← ex, e)) (w .does i (s .named a (sym ex ∙ e))) }
+        record { does = λ i s. does-same (simp (le-ltb (length m) leastMemory h, ← ex, e)) (w .does i (s .named a (sym ex ∙ e))) }
 
 pub ruleset laws = (
   known-done,
