@@ -1,5 +1,5 @@
 // Counts the streams of a session text by their clocks. Standard input is read in fragments and cut into lines; what is counted of a line, and all that
-// is printed, is in `roll`.
+// is printed, is in `roll` and `rolltext`.
 ghost use mathlib.Core.Path.{_≡_};
 ghost use Prim.Native.Nat.{_≤_};
 ghost use lib.ListN.{length};
@@ -138,11 +138,11 @@ fn say_broken() {
 // What was counted is printed; where streams were not counted, that is said too. No call is refused but for the number of clocks: the memory is long
 // enough, and a text that is read has fewer streams than may be counted.
 fn print(roll: Roll, memory: &[u8], room: &mut [u8]) {
-    let len = roll::put_roll(room, roll, memory);
+    let len = rolltext::put_roll(room, roll, memory);
     if !io::write_all(STDOUT_FILENO, front(room, len)) {
         say_broken();
     }
-    let said = roll::put_warning(room, roll.uncounted);
+    let said = rolltext::put_warning(room, roll.uncounted);
     io::write_all(STDERR_FILENO, front(room, said));
 }
 

@@ -1,3 +1,3 @@
 pub mod Laws
 pub mod Settled
-pub mod Kept
+pub mod Whole

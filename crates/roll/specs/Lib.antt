@@ -1,6 +1,4 @@
--- What a line makes of a roll, and what is printed of one.
+-- What a line makes of a roll, and what holds over all lines.
 pub mod Taking
-pub mod Printing
-pub mod Kept
+pub mod Whole
 pub mod Examples
-pub mod Private
