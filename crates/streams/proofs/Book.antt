@@ -135,7 +135,7 @@ module _ (R : Rule) (G : Lawful R) where
           altered-cases k
           (λ ek. clash (cc (
             ap (λ (y : Value). R .same (b′ .value j) y) (ap (b′ .value) ek ∙ A .value)
-            ∙ ap (λ (y : Value). R .same y w) (A .other-value j (omega arith) xj) ∙ same-turned R G (b .value j) w,
+                ∙ ap (λ (y : Value). R .same y w) (A .other-value j (omega arith) xj) ∙ same-turned R G (b .value j) w,
             new j (omega arith) xj (was-live j (omega arith) xj fj),
             e,
           )))
@@ -346,7 +346,7 @@ module _ (R : Rule) (G : Lawful R) where
                 last-or k hk
                 (λ ek. clash (cc (
                   ap (λ (y : Value). R .same (b′ .value j) y) (ap (b′ .value) ek ∙ A .value)
-                  ∙ ap (λ (y : Value). R .same y v) (A .other-value j mj (λ x. omega arith)) ∙ same-turned R G (b .value j) v,
+                      ∙ ap (λ (y : Value). R .same y v) (A .other-value j mj (λ x. omega arith)) ∙ same-turned R G (b .value j) v,
                   new-apart j mj (was j mj fj),
                   e,
                 )))
@@ -410,9 +410,10 @@ module _ (R : Rule) (G : Lawful R) where
           let e = eqb-true k j s in
           (has-streams b k (rw e (named-streams w j hj ej)), A₂ .other-value k (omega arith) x ∙ rw e (A₁ .value)))
           (λ s.
-          let y = eqb-false k j s in
-          (ap (λ (z : ℕ). eqb z 0) (sym (A₂ .other-streams k (omega arith) x ∙ A₁ .other-streams k m y)) ∙ f,
-          A₂ .other-value k (omega arith) x ∙ A₁ .other-value k m y)))
+          let y = eqb-false k j s in (
+            ap (λ (z : ℕ). eqb z 0) (sym (A₂ .other-streams k (omega arith) x ∙ A₁ .other-streams k m y)) ∙ f,
+            A₂ .other-value k (omega arith) x ∙ A₁ .other-value k m y,
+          )))
 
       pub joins : b₂ .refused ≡ b .refused → b₂ .total ≡ b .total
           → ((d : ℕ) → d < 128 → b₂ .domain d ≡ b .domain d - cond (hasDomain R d v) (b .streams i) 0 + cond (hasDomain R d w) (b .streams i) 0)
