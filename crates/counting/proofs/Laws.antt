@@ -85,7 +85,8 @@ module _ (c : Census) (m v : List ℕ) (k : ReferenceClock) (u : ℕ) (eu : u �
       record { does = λ j t. let e = is-slot j t in rw e (does-same (simp (← eu, le-ltb i u h)) d) }
 
 -- `count_refused`
-pub refused-done : (c : Census) (t f : ℕ) → t ≡ plus (c .total) 1 → f ≡ plus (c .refused) 1 → (r : Called) → r ≡ doneWith (census (c .used) t f (c .domains))
+pub refused-done : (c : Census) (t f : ℕ) → t ≡ plus (c .total) 1 → f ≡ plus (c .refused) 1
+    → (r : Called) → r ≡ doneWith (census (c .used) t f (c .domains))
     → r ≡ doneWith (oneRefusedMore c)
 refused-done c t f et ef r er = er ∙ cc (et, ef)
 

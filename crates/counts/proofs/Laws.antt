@@ -84,5 +84,6 @@ module _ {o : Outcome} {c : Census} {m : List ℕ} {r : Called} where
   does-same e w = rw e w
 
 -- one outcome is one result and one memory
-pub does-settled : {o : Outcome} {c : Census} {m : List ℕ} {q r : Called} {m₁ m₂ : List ℕ} → Does o c m q m₁ → Does o c m r m₂ → (q ≡ r) × (m₁ ≡ m₂)
+pub does-settled : {o : Outcome} {c : Census} {m : List ℕ} {q r : Called} {m₁ m₂ : List ℕ} → Does o c m q m₁ → Does o c m r m₂
+    → (q ≡ r) × (m₁ ≡ m₂)
 does-settled a b = (a .result ∙ sym (b .result), a .memory ∙ sym (b .memory))

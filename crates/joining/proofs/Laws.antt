@@ -29,7 +29,8 @@ use Rattle.joining.specs.Private.Clock.{Adds, Moves, JoinsClocks}
 
 -- `add_streams`, `move_streams`
 module _ (m : List ℕ) (i j : ℕ) where
-  pub adds : (o n p : ℕ) → o ≡ streamsAt m j → n ≡ streamsAt m i → p ≡ plus o n → (m₁ : List ℕ) → m₁ ≡ sets m (j * slotSize) (quad p) → Adds m i j n m₁
+  pub adds : (o n p : ℕ) → o ≡ streamsAt m j → n ≡ streamsAt m i → p ≡ plus o n
+      → (m₁ : List ℕ) → m₁ ≡ sets m (j * slotSize) (quad p) → Adds m i j n m₁
   adds o n p eo en ep m₁ e = record { number = en; memory = e ∙ ap (λ (x : ℕ). sets m (j * slotSize) (quad x)) (ep ∙ cc (eo, en)) }
 
   pub moves : (n : ℕ) (m₁ : List ℕ) → Adds m i j n m₁ → (m₂ : List ℕ) → m₂ ≡ sets m₁ (i * slotSize) (quad 0) → Moves m i j n m₂
@@ -41,7 +42,8 @@ module _ (c : Census) (m : List ℕ) (i : ℕ) (from : ReferenceClock) (j : ℕ)
   unfolding joinSlots
   join-same e r f = let q : joinSlots c m i from j into ≡ leaves c m = simp (eq-eqb i j e) in does-leave q f refl
 
-  pub join-done : (i ≡ j → ⊥) → (n : ℕ) (m₂ : List ℕ) → Moves m i j n m₂ → (d e : ℕ) → d ≡ orNone (domainIn from) → e ≡ orNone (domainIn into)
+  pub join-done : (i ≡ j → ⊥) → (n : ℕ) (m₂ : List ℕ) → Moves m i j n m₂
+      → (d e : ℕ) → d ≡ orNone (domainIn from) → e ≡ orNone (domainIn into)
       → (a b : Census) → a ≡ census (c .used) (c .total) (c .refused) (less d n (c .domains))
       → b ≡ census (a .used) (a .total) (a .refused) (more e n (a .domains))
       → (r : Called) → r ≡ doneWith b → Does (joinSlots c m i from j into) c m r m₂

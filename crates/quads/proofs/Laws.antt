@@ -43,7 +43,8 @@ module _ (s : List ℕ) (at : ℕ) where
         let fourth = byte-there s at 3 (omega arith) ∙ sym (hd .is) in
         sym (simp (le-ltb (length (bytesAt (place at 4) s)) 4 all-there, first, second, third, fourth))
 
-pub quad-put : (n : ℕ) {l x : List ℕ} {at r : ℕ} → Put 4 l at (n / 16777216 ∷ n / 65536 % 256 ∷ n / 256 % 256 ∷ n % 256 ∷ []) r x → Put 4 l at (quad n) r x
+pub quad-put : (n : ℕ) {l x : List ℕ} {at r : ℕ} → Put 4 l at (n / 16777216 ∷ n / 65536 % 256 ∷ n / 256 % 256 ∷ n % 256 ∷ []) r x
+    → Put 4 l at (quad n) r x
 unfolding quad
 quad-put n p = p
 

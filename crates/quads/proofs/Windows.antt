@@ -42,7 +42,8 @@ stored-behind p n at m [] h = refl
 stored-behind p n at m (a ∷ t) h = stored-behind p n (suc at) (set m at a) t (omega arith) ∙ ap (take n) (drop-set-lt p m at a (omega arith))
 
 -- and inside the text
-pub stored-inside : (k n at : ℕ) (m t : List ℕ) → at + length t ≤ length m → k + n ≤ length t → bytesAt (place (at + k) n) (sets m at t) ≡ bytesAt (place k n) t
+pub stored-inside : (k n at : ℕ) (m t : List ℕ) → at + length t ≤ length m → k + n ≤ length t
+    → bytesAt (place (at + k) n) (sets m at t) ≡ bytesAt (place k n) t
 unfolding bytesAt
 stored-inside k n at m t h g =
     let front : length (take at m) ≡ at = length-take-le at m (omega arith) in

@@ -56,4 +56,5 @@ pub record TakesLine (r : Roll) (m l : List ℕ) (r′ : Roll) (m′ : List ℕ)
 -- no second roll, and no second memory, meets it. `proofs/Settled.antt` proves it
 abbrev pub TakesSettled : Type 0
 TakesSettled =
-    (r : Roll) (m l : List ℕ) (r₁ r₂ : Roll) (m₁ m₂ : List ℕ) → TakesLine r m l r₁ m₁ → TakesLine r m l r₂ m₂ → (r₁ ≡ r₂) × (m₁ ≡ m₂)
+    (r : Roll) (m l : List ℕ) (r₁ r₂ : Roll) (m₁ m₂ : List ℕ) → TakesLine r m l r₁ m₁ → TakesLine r m l r₂ m₂
+    → (r₁ ≡ r₂) × (m₁ ≡ m₂)

@@ -13,7 +13,8 @@ use Rattle.roll.specs.declared.Roll.{Roll}
 -- lines taken one after another from a fresh roll, beside memory of any contents and any length: the roll and the memory then; the last line is first
 pub data Rolled : Roll → List ℕ → List (List ℕ) → Type 0 where
   fresh : (m : List ℕ) → Rolled freshRoll m []
-  more : (r : Roll) (m : List ℕ) (ls : List (List ℕ)) (l : List ℕ) (r′ : Roll) (m′ : List ℕ) → Rolled r m ls → TakesLine r m l r′ m′ → Rolled r′ m′ (l ∷ ls)
+  more : (r : Roll) (m : List ℕ) (ls : List (List ℕ)) (l : List ℕ) (r′ : Roll) (m′ : List ℕ) → Rolled r m ls → TakesLine r m l r′ m′
+      → Rolled r′ m′ (l ∷ ls)
 
 -- 1 for a line that is a stream
 abbrev pub isStream : Option (List ℕ) → ℕ

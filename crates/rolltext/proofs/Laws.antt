@@ -72,7 +72,8 @@ module _ (memory : Lent) (i n : ℕ) (en : n ≡ streamsAt (memory .now) i) wher
     unfolding clockLine
     clock-put c e l l′ at next p = simp (taken, ← there, ← ey, e, ← en) p
 
-pub clock-read : (v : List ℕ) (y : ReferenceClockRead) → y ≡ readReferenceClock v → (c : ReferenceClock) → y ≡ Accepted c → Accepted c ≡ readReferenceClock v
+pub clock-read : (v : List ℕ) (y : ReferenceClockRead) → y ≡ readReferenceClock v → (c : ReferenceClock) → y ≡ Accepted c
+    → Accepted c ≡ readReferenceClock v
 clock-read v y ey c e = sym e ∙ ey
 
 -- `put_clocks` and `put_domains`: of n texts f 0, f 1 and so on, each of at most k bytes, the first i are put

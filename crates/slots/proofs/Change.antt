@@ -40,7 +40,8 @@ module _ (m : List ℕ) (i : ℕ) (t : List ℕ) (short : length t ≤ slotSize)
   pub other-value : valueAt (sets m (i * slotSize) t) j ≡ valueAt m j
   unfolding valueAt valuePlace
   other-value =
-      ap (λ (n : ℕ). bytesAt (place (j * slotSize + 12) (min n mostValue)) (sets m (i * slotSize) t)) (other-number (j * slotSize + 8) (omega arith) (omega arith))
+      ap (λ (n : ℕ). bytesAt (place (j * slotSize + 12) (min n mostValue)) (sets m (i * slotSize) t))
+      (other-number (j * slotSize + 8) (omega arith) (omega arith))
       ∙ other-bytes (j * slotSize + 12) (min (numberAt m (j * slotSize + 8)) mostValue) (omega arith) (omega arith)
 
 -- the slot i gets another number of streams

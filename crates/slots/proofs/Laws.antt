@@ -46,7 +46,8 @@ pub value-there : (e r : Lent) (i at told len : ℕ) → Start i at → told ≡
     → PartAt e (place (at + 12) len) r → PartAt e (valuePlace (e .now) i) r
 unfolding valuePlace
 value-there e r i at told len s t l p =
-    let q : len ≡ min (numberAt (e .now) (i * slotSize + 8)) mostValue = l ∙ ap (λ (n : ℕ). min n mostValue) (t ∙ ap (λ (n : ℕ). numberAt (e .now) (n + 8)) (s .is)) in
+    let q : len ≡ min (numberAt (e .now) (i * slotSize + 8)) mostValue =
+    l ∙ ap (λ (n : ℕ). min n mostValue) (t ∙ ap (λ (n : ℕ). numberAt (e .now) (n + 8)) (s .is)) in
     let w : place (at + 12) len ≡ place (i * slotSize + 12) (min (numberAt (e .now) (i * slotSize + 8)) mostValue) = cc (q, s .is) in
     rw w at p
 
@@ -74,7 +75,8 @@ module _ (e : Lent) (k : RefMeaning) (i at : ℕ) (s : Start i at) (w : Lent) (e
   pub not-read : (q : Refusal) → x ≡ Refused q → Decides false (OfClock (e .now) k i)
   not-read q f = record { right = λ y. clash (cc (y)); found = λ o. clash (cc (read-there, f, o .reads)) }
 
-  pub is-asked : (n p : ℕ) → n ≡ numberAt (e .now) (at + 4) → p ≡ fingerprint hostPrint k → n ≡ p → (t : ℕ) → t ≡ numberAt (e .now) at → (t ≡ 0 → ⊥)
+  pub is-asked : (n p : ℕ) → n ≡ numberAt (e .now) (at + 4) → p ≡ fingerprint hostPrint k → n ≡ p
+      → (t : ℕ) → t ≡ numberAt (e .now) at → (t ≡ 0 → ⊥)
       → (d : ReferenceClock) → x ≡ Accepted d → (r : Bool) → Decides r (OneClock hostsAlike k (refMeaning (w .now) d)) → Decides r (OfClock (e .now) k i)
   unfolding printAt streamsAt
   is-asked n p en ep np t et nt d f r a =

@@ -113,14 +113,17 @@ module _ (R : Rule) (G : Lawful R) where
       altered-accepted : (0 < n → R .accepted w ≡ true) → (j : ℕ) → j < b′ .used → isFree b′ j ≡ false → R .accepted (b′ .value j) ≡ true
       altered-accepted ok j m f =
           altered-cases j
-          (λ e. rw e (ap (R .accepted) (A .value) ∙ ok (let z = not-free b′ j f in let y : b′ .streams j ≡ n = ap (b′ .streams) e ∙ A .streams in omega arith)))
+          (λ e.
+          let y : b′ .streams j ≡ n = ap (b′ .streams) e ∙ A .streams in
+          rw e (ap (R .accepted) (A .value) ∙ ok (let z = not-free b′ j f in omega arith)))
           (λ x.
           let was : isFree b j ≡ false = ap (λ (y : ℕ). eqb y 0) (sym (A .other-streams j (omega arith) x)) ∙ f in
           ap (R .accepted) (A .other-value j (omega arith) x) ∙ S .accepted j (omega arith) was)
 
       -- where the value there is then that of no other entry with streams
       altered-apart : ((j : ℕ) → j < b .used → (j ≡ i → ⊥) → isFree b j ≡ false → R .same w (b .value j) ≡ false)
-          → (j k : ℕ) → j < b′ .used → k < b′ .used → isFree b′ j ≡ false → isFree b′ k ≡ false → R .same (b′ .value j) (b′ .value k) ≡ true → j ≡ k
+          → (j k : ℕ) → j < b′ .used → k < b′ .used → isFree b′ j ≡ false → isFree b′ k ≡ false
+          → R .same (b′ .value j) (b′ .value k) ≡ true → j ≡ k
       altered-apart new j k hj hk fj fk e =
           altered-cases j
           (λ ej.
@@ -152,7 +155,8 @@ module _ (R : Rule) (G : Lawful R) where
       kept-accepted : (j : ℕ) → j < b′ .used → isFree b′ j ≡ false → R .accepted (b′ .value j) ≡ true
       kept-accepted j h f = let k = was j (omega arith) f in ap (R .accepted) (k .1) ∙ S .accepted j (omega arith) (k .0)
 
-      kept-apart : (j k : ℕ) → j < b′ .used → k < b′ .used → isFree b′ j ≡ false → isFree b′ k ≡ false → R .same (b′ .value j) (b′ .value k) ≡ true → j ≡ k
+      kept-apart : (j k : ℕ) → j < b′ .used → k < b′ .used → isFree b′ j ≡ false → isFree b′ k ≡ false
+          → R .same (b′ .value j) (b′ .value k) ≡ true → j ≡ k
       kept-apart j k hj hk fj fk e =
           let x = was j (omega arith) fj in
           let y = was k (omega arith) fk in

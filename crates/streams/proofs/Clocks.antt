@@ -37,7 +37,8 @@ data Each (P : Value → Type 0) : Streams → Type 0 where
   one : {s : Value} {l : Streams} → P s → Each P l → Each P (s ∷ l)
 
 module _ (R : Rule) (G : Lawful R) (b : Book)
-    (apart : (i j : ℕ) → i < b .used → j < b .used → isFree b i ≡ false → isFree b j ≡ false → R .same (b .value i) (b .value j) ≡ true → i ≡ j) where
+    (apart : (i j : ℕ) → i < b .used → j < b .used → isFree b i ≡ false → isFree b j ≡ false
+    → R .same (b .value i) (b .value j) ≡ true → i ≡ j) where
   -- an entry with streams is that of s's clock
   record Named (s : Value) : Type 0 where
     i : ℕ
