@@ -2,16 +2,21 @@
 -- `quick` cuts at the first separator alone, and is the same. Assumes nothing.
 use Prim.Native.Nat.{ℕ, zero, suc, _-_}
 use mathlib.Core.Path.{_≡_, refl, sym, ap, _∙_, fun-ext}
-use mathlib.Core.Bool.{Bool, true, false, _&&_, _||_}
+use mathlib.Core.Bool.{Bool, true, false, cond, _&&_, _||_}
 use mathlib.Core.List.{List, [], _∷_, map}
+use mathlib.Core.Option.{Option, none, some}
 use lib.Dec.{eqb, ltb}
 use lib.ListN.{length, take, drop}
 use Rattle.text.specs.Find.{beforePair}
 use Rattle.text.specs.Word.{word}
 use Rattle.text.specs.Example.{Example, _gives_, Each}
+use Rattle.number.specs.Hex.{hexDigit}
 use Rattle.abnf.specs.Rule.{Rule, nothing, range, _or_, _then_, times, upto}
 use Rattle.abnf.proofs.Rules.{cut, cut-then}
-use Rattle.ipaddr.specs.Address.{hexdig, decOctet, ipv4address, h16, ipAddress}
+use Rattle.ipaddr.specs.Address.{hexdig, decOctet, ipv4address, h16, ipv6address, ipAddress}
+use Rattle.ipaddr.specs.Number as number
+use Rattle.ipaddr.specs.Number.{octetsFrom, octetsOf, paired, groupsFrom, sideGroups, groupsOf, ipAddressOf}
+use Rattle.ipaddr.specs.Examples.{numbers}
 use Rattle.ipaddr.specs.Private.Groups.{groups}
 use Rattle.ipaddr.proofs.Four.{octets, octet-lacks, four-octets}
 use Rattle.ipaddr.proofs.Groups.{groups-cut}
@@ -31,8 +36,11 @@ quickForm a b s =
     ltb (beforePair 58 58 s) (length s)
     && (any (suc a) (λ m. quickGroups false m (take (beforePair 58 58 s) s)) && quickGroups true b (drop (suc (suc (beforePair 58 58 s))) s))
 
+quickSix : Rule
+quickSix s = quickGroups true 8 s || any 8 (λ a. quickForm a (7 - a) s)
+
 quick : Rule
-quick s = quickOctets 3 s || (quickGroups true 8 s || any 8 (λ a. quickForm a (7 - a) s))
+quick s = quickOctets 3 s || quickSix s
 
 octets-quick : (m : ℕ) → octets m ≡ quickOctets m
 unfolding octets quickOctets
@@ -50,11 +58,15 @@ groups-quick four (suc (suc n)) = fun-ext (go (groups-quick four (suc n)))
     go : groups four (suc n) ≡ quickGroups four (suc n) → (s : List ℕ) → groups four (suc (suc n)) s ≡ quickGroups four (suc (suc n)) s
     go e s = groups-cut four n s ∙ unfold quickGroups in rw (e, four-quick)
 
-quick-is : ipAddress ≡ quick
-quick-is = fun-ext go
+six-quick : ipv6address ≡ quickSix
+six-quick = fun-ext go
   where
-    go : (s : List ℕ) → ipAddress s ≡ quick s
-    go s = unfold ipAddress _or_ quick quickForm in rw (six-forms s, fun-ext (λ b. fun-ext (groups-quick b)), four-quick)
+    go : (s : List ℕ) → ipv6address s ≡ quickSix s
+    go s = six-forms s ∙ unfold quickSix quickForm in rw (fun-ext (λ b. fun-ext (groups-quick b)))
+
+quick-is : ipAddress ≡ quick
+unfolding ipAddress _or_ quick
+quick-is = rw (four-quick, six-quick)
 
 abbrev rows : List (Example (List ℕ) Bool)
 rows =
@@ -92,5 +104,19 @@ rows =
     ∷ []
 
 texts : Each ipAddress rows
-unfolding quick quickOctets quickGroups quickForm any cut beforePair hexdig decOctet h16 nothing range _or_ _then_ times upto
+unfolding quick quickSix quickOctets quickGroups quickForm any cut beforePair hexdig decOctet h16 nothing range _or_ _then_ times upto
 texts = ap (λ (p : Rule). map (λ (r : Example (List ℕ) Bool). p (r .given)) rows) quick-is
+
+quickNumber : List ℕ → Option number.Address
+quickNumber s = cond (quickOctets 3 s) (some (number.four (octetsOf s))) (cond (quickSix s) (some (number.six (groupsOf s))) none)
+
+number-quick : ipAddressOf ≡ quickNumber
+number-quick = fun-ext go
+  where
+    go : (s : List ℕ) → ipAddressOf s ≡ quickNumber s
+    go s = unfold ipAddressOf quickNumber in rw (← four-quick, ← six-quick)
+
+pub numbers-hold : Each ipAddressOf numbers
+unfolding quickNumber quickSix quickOctets quickGroups quickForm any cut beforePair hexdig decOctet h16 ipv4address nothing range _or_ _then_ times upto
+    hexDigit octetsOf octetsFrom paired groupsFrom sideGroups groupsOf
+numbers-hold = ap (λ (f : List ℕ → Option number.Address). map (λ (r : Example (List ℕ) (Option number.Address)). f (r .given)) numbers) number-quick

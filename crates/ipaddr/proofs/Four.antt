@@ -26,29 +26,29 @@ module _ (a z b : ℕ) where
   between-from h = sym (rw (le-leb a b h))
 
 -- an octet of each length
-dec-1 : (x : ℕ) → decOctet (x ∷ []) ≡ between 48 57 x
+pub dec-1 : (x : ℕ) → decOctet (x ∷ []) ≡ between 48 57 x
 unfolding decOctet _or_ range times nothing
 dec-1 x = simp (range-then, range-then-nil, and-false, or-false)
 
-dec-2 : (x y : ℕ) → decOctet (x ∷ y ∷ []) ≡ between 49 57 x && between 48 57 y
+pub dec-2 : (x y : ℕ) → decOctet (x ∷ y ∷ []) ≡ between 49 57 x && between 48 57 y
 unfolding decOctet _or_ range times nothing
 dec-2 x y = simp (range-then, range-then-nil, and-false, or-false)
 
 -- one of three digits, by the first two
-abbrev large : ℕ → ℕ → ℕ → Bool
+abbrev pub large : ℕ → ℕ → ℕ → Bool
 large x y z =
     (eqb x 49 && (between 48 57 y && between 48 57 z))
     || ((eqb x 50 && (between 48 52 y && between 48 57 z)) || (eqb x 50 && (eqb y 53 && between 48 53 z)))
 
-dec-3 : (x y z : ℕ) → decOctet (x ∷ y ∷ z ∷ []) ≡ large x y z
+pub dec-3 : (x y z : ℕ) → decOctet (x ∷ y ∷ z ∷ []) ≡ large x y z
 unfolding decOctet _or_ range times nothing
 dec-3 x y z = simp (range-then, and-false, and-true, byte-is)
 
-dec-4 : (x y z w : ℕ) (s : List ℕ) → decOctet (x ∷ y ∷ z ∷ w ∷ s) ≡ false
+pub dec-4 : (x y z w : ℕ) (s : List ℕ) → decOctet (x ∷ y ∷ z ∷ w ∷ s) ≡ false
 unfolding decOctet _or_ range times nothing
 dec-4 x y z w s = simp (range-then, and-false)
 
-dec-0 : decOctet [] ≡ false
+pub dec-0 : decOctet [] ≡ false
 unfolding decOctet _or_ range times nothing
 dec-0 = simp range-then-nil
 
@@ -130,7 +130,7 @@ pub record Four (s : List ℕ) (dots at : ℕ) : Type 0 where
 pub four-start : (s : List ℕ) → Four s 3 0
 four-start s = record { within = omega arith; so-far = four-octets s }
 
-octets-at : (m : ℕ) (t : List ℕ)
+pub octets-at : (m : ℕ) (t : List ℕ)
     → octets (suc m) t ≡ ltb (before 46 t) (length t) && (decOctet (take (before 46 t) t) && octets m (drop (suc (before 46 t)) t))
 unfolding octets
 octets-at m t = then-at 46 decOctet (octets m) (octet-lacks .free) t

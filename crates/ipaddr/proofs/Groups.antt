@@ -56,7 +56,7 @@ upto-hex (suc n) [] = rw (le-leb 0 (suc n) (omega arith))
 upto-hex (suc n) (x ∷ s) =
     rw (hexdig-then (upto n hexdig) x s, upto-hex n s, leb·suc-suc (length s) n) (swap (ltb (hexDigit x) 16) (leb (length s) n) (allHex s))
 
-group-is : (s : List ℕ) → (length s ≡ 0 → ⊥) → h16 s ≡ leb (length s) 4 && allHex s
+pub group-is : (s : List ℕ) → (length s ≡ 0 → ⊥) → h16 s ≡ leb (length s) 4 && allHex s
 unfolding h16 allHex
 group-is [] h = absurd (h refl)
 group-is (x ∷ s) h =
@@ -107,7 +107,7 @@ unfolding h16 hexdig
 group-no-dot = search free-laws depth 20
 
 -- one group, or an IPv4address, and not both
-one-of : (s : List ℕ) → h16 s ≡ true → ipv4address s ≡ false
+pub one-of : (s : List ℕ) → h16 s ≡ true → ipv4address s ≡ false
 one-of s h = by-bool (ipv4address s) (λ e. clash (cc (has-free 46 h16 s (group-no-dot .free) (four-dot s e)))) (λ e. e)
 
 -- a colon and n + 1 groups more
@@ -137,7 +137,7 @@ module _ (four : Bool) (t : List ℕ) where
       (rw (free-at 58 ipv4address (four-lacks .free) t h, and-false four, and-false (eqb n 0)) (or-false _))
 
   -- no colon: one group, or an IPv4address for two
-  begun-last : length t ≤ before 58 t → (n : ℕ) → begun four n t ≡ (eqb n 1 && h16 t) || (eqb n 2 && (four && ipv4address t))
+  pub begun-last : length t ≤ before 58 t → (n : ℕ) → begun four n t ≡ (eqb n 1 && h16 t) || (eqb n 2 && (four && ipv4address t))
   unfolding begun groups
   begun-last h zero = refl
   begun-last h (suc zero) = sym (or-false (h16 t))

@@ -3,3 +3,4 @@ pub mod Groups
 pub mod Six
 pub mod Fits
 pub mod Examples
+pub mod Number

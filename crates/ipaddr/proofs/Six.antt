@@ -31,7 +31,7 @@ any-same zero f g h = refl
 any-same (suc n) f g h =
     rw (h 0 (omega arith), any-same n (λ m. f (suc m)) (λ m. g (suc m)) (λ m k. h (suc m) (omega arith)))
 
-any-none : (n : ℕ) (f : ℕ → Bool) → ((m : ℕ) → m < n → f m ≡ false) → any n f ≡ false
+pub any-none : (n : ℕ) (f : ℕ → Bool) → ((m : ℕ) → m < n → f m ≡ false) → any n f ≡ false
 unfolding any
 any-none zero f h = refl
 any-none (suc n) f h = rw (h 0 (omega arith)) (any-none n (λ m. f (suc m)) (λ m k. h (suc m) (omega arith)))
@@ -189,6 +189,12 @@ most-counted a m l c h =
     ∙ and-true (ltb a (suc m))
     ∙ leb·suc-suc a m
 
+-- eight groups have no "::"
+pub no-eight : (s : List ℕ) → beforePair 58 58 s < length s → groups true 8 s ≡ false
+no-eight s h =
+    ap (groups true 8) (sym (cut-pair 58 58 s h))
+    ∙ tidy-groups true 8 .double (take (beforePair 58 58 s) s) (drop (suc (suc (beforePair 58 58 s))) s)
+
 -- `is_ipv6_address`
 module _ (s : List ℕ) (g : ℕ) (eg : g ≡ beforePair 58 58 s) where
   pub six-eight : length s ≤ g → (r : ℕ) → Counted true s r → eqb r 8 ≡ ipv6address s
@@ -205,18 +211,13 @@ module _ (s : List ℕ) (g : ℕ) (eg : g ≡ beforePair 58 58 s) where
   six-whole h = omega (arith, pair-whole 58 58 s (omega arith))
 
   module _ (h : g < length s) (a b : ℕ) (ca : Counted false (take g s) a) (cb : Counted true (rest (g + 2) s) b) where
-    no-eight : groups true 8 s ≡ false
-    no-eight =
-        ap (groups true 8) (sym (cut-pair 58 58 s (omega arith)))
-        ∙ tidy-groups true 8 .double (take (beforePair 58 58 s) s) (drop (suc (suc (beforePair 58 58 s))) s)
-
     form-counted : (m : ℕ) → m ≤ 7 → form m (7 - m) s ≡ leb a m && eqb (7 - m) b
     form-counted m k =
         let e : suc (suc g) ≡ g + 2 = omega arith in
         rw (← eg, lt-ltb g (length s) h, most-counted a m (take g s) ca k, e, ← rest-is (g + 2) s, cb (7 - m) (omega arith))
 
     counted : ipv6address s ≡ any 8 (λ m. leb a m && eqb (7 - m) b)
-    counted = six-forms s ∙ rw no-eight (any-same 8 _ _ (λ m k. form-counted m (omega arith)))
+    counted = six-forms s ∙ rw (no-eight s (omega arith)) (any-same 8 _ _ (λ m k. form-counted m (omega arith)))
 
     pub six-many : 7 < b → false ≡ ipv6address s
     six-many k = sym (counted ∙ any-none 8 _ (λ m l. rw (ne-eqb (7 - m) b (λ e. omega arith)) (and-false (leb a m))))

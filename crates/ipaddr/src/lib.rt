@@ -6,7 +6,7 @@ ghost use Rattle.ipaddr.specs.Address.{decOctet, ipv4address, h16, ipv6a
 ghost use Rattle.ipaddr.specs.Private.Groups.{Counted};
 
 // Whether `b` is a byte from `first` to `last`.
-fn is_between(b: u8, first: u8, last: u8) -> bool
+pub fn is_between(b: u8, first: u8, last: u8) -> bool
     ensures { λ r. ⌜ r ≡ between first last b ⌝ }
 {
     if b < first {
@@ -42,7 +42,7 @@ fn is_large_octet(s: &[u8]) -> bool
 }
 
 // Whether `s` is a number from 0 to 255 with no leading zero.
-fn is_dec_octet(s: &[u8]) -> bool
+pub fn is_dec_octet(s: &[u8]) -> bool
     ensures { λ r. ⌜ r ≡ decOctet (now (s .entry)) ⌝ }
 {
     if s.len() == 1 {
@@ -83,7 +83,7 @@ pub fn is_ipv4_address(s: &[u8]) -> bool
 }
 
 // Whether `s` is a group: one to four digits of base 16.
-fn is_h16(s: &[u8]) -> bool
+pub fn is_h16(s: &[u8]) -> bool
     ensures { λ r. ⌜ r ≡ h16 (now (s .entry)) ⌝ }
 {
     if s.len() == 0 {

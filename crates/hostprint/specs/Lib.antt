@@ -1,0 +1,3 @@
+-- A number that hosts of one server share.
+pub mod Mixed
+pub mod Server

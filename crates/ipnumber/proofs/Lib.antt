@@ -1,0 +1,4 @@
+pub mod Held
+pub mod Octets
+pub mod Groups
+pub mod Whole
