@@ -11,6 +11,7 @@ use Rattle.text.proofs.Bools.{and-left, and-right, both}
 use Rattle.text.proofs.Cuts.{same-eq, same-refl}
 use Rattle.meaning.specs.Meaning.{Version, Server, Ratio, Tag, RefMeaning, MediaMeaning, SourceMeaning}
 use Rattle.meaning.specs.Meaning as means
+use Rattle.hosts.proofs.Owed.{servers-sorted}
 use Rattle.equal.specs.Private.Flat.{Flat, says, versionKind, versionName, serverSays, clockSays, tagKind, tagBytes, mediaSays, sourceSays}
 use Rattle.equal.specs.Private.Flat.{sameNumbers, sameBehind, alikeFlat}
 use Rattle.equal.specs.Decides.{Decides}
@@ -192,18 +193,10 @@ said-eq x y e =
     let h = same-eq (x .head) (y .head) (alike-head same x y e) in
     ap (λ (g : List ℕ). headed g x) h ∙ alike-behind same x y e
 
--- bytes sort into classes, and clocks as their hosts do
-same-classes : Equivalence (Yes same)
-same-classes =
-    record {
-      to-self = same-refl;
-      back = λ s t e. rw (same-eq s t e) (same-refl t);
-      on = λ s t u e f. rw (same-eq s t e, same-eq t u f) (same-refl u);
-    }
-
+-- hosts sort into classes, and clocks as their hosts do
 hosts-classes : Equivalence (Yes hostsAlike)
 unfolding hostsAlike
-hosts-classes = same-classes
+hosts-classes = record { to-self = servers-sorted .to-self; back = servers-sorted .back; on = servers-sorted .on }
 
 module _ (hosts : Hosts) (q : Equivalence (Yes hosts)) where
   one-back : (a b : RefMeaning) → OneClock hosts a b → OneClock hosts b a

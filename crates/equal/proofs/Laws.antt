@@ -43,6 +43,7 @@ use Rattle.mediarecord.specs.declared.MediaClock.{MediaClock}
 use Rattle.mediarecord.specs.declared.MediaClock.the-variants as media
 use Rattle.mediarecord.specs.declared.MediaClockSource.{MediaClockSource}
 use Rattle.meaning.specs.Meaning.{refMeaning, offsetMeans, mediaMeaning}
+use Rattle.hosts.specs.Server.{oneServer}
 use Rattle.equal.specs.Private.Flat.{Flat, orNone, clockSays, sourceSays, sameNumbers, sameBehind, alikeFlat}
 use Rattle.equal.specs.Decides.{Decides}
 use Rattle.equal.specs.Alike.{Hosts, OneClock, hostsAlike}
@@ -237,7 +238,7 @@ module _ (x : MediaClockSource) (r : Parts) where
     source-src es e = also e (λ v. simp (ex, es))
 
 -- `hosts_alike`
-pub hosts-are : (s t : List ℕ) (r : Bool) → r ≡ same s t → r ≡ hostsAlike s t
+pub hosts-are : (s t : List ℕ) (r : Bool) → r ≡ oneServer s t → r ≡ hostsAlike s t
 unfolding hostsAlike
 hosts-are s t r e = e
 

@@ -4,11 +4,12 @@ use native.Mathlib.Omega.{arith}
 use mathlib.Core.Path.{_≡_, refl, sym, ap}
 use mathlib.Core.List.{List, [], _∷_}
 use mathlib.Core.Option.{Option, none, some}
-use Rattle.text.proofs.Cuts.{same-eq}
+use Rattle.hostprint.specs.Mixed.{mixed, mixedText}
+use Rattle.hostprint.proofs.Shared.{print-shared}
 use Rattle.meaning.specs.Meaning.{Server, RefMeaning}
 use Rattle.meaning.specs.Meaning as means
 use Rattle.equal.specs.Alike.{hostsAlike, equal, servers}
-use Rattle.equal.specs.Fingerprint.{mixed, mixedText, mixedNumbers, hostPrint, columns, serverPrint, fingerprint}
+use Rattle.equal.specs.Fingerprint.{mixedNumbers, hostPrint, columns, serverPrint, fingerprint}
 use Rattle.equal.specs.Fingerprint.{FingerprintShared, HostPrintShared, OneClockShares, FingerprintSmall}
 use Rattle.equal.specs.Private.Flat.{Flat, serverSays, clockSays}
 
@@ -24,8 +25,8 @@ fingerprint-shared hosts print share m n (equal e) = ap (fingerprint print) e
 fingerprint-shared hosts print share m n (servers h g port e a b) = rw (a, b) (host-shared print h g port (share h g e))
 
 pub host-print-shared : HostPrintShared
-unfolding hostsAlike
-host-print-shared h g e = ap hostPrint (same-eq h g e)
+unfolding hostsAlike hostPrint
+host-print-shared h g e = print-shared h g e
 
 pub one-clock-shares : OneClockShares
 one-clock-shares = fingerprint-shared hostsAlike hostPrint host-print-shared

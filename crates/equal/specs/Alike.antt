@@ -4,16 +4,16 @@ use mathlib.Core.Path.{_≡_}
 use mathlib.Core.List.{List}
 use mathlib.Core.Bool.{Bool, true}
 use mathlib.Core.Option.{Option}
-use Rattle.text.specs.Word.{same}
 use Rattle.meaning.specs.Meaning.{RefMeaning, ntpHost}
+use Rattle.hosts.specs.Server.{oneServer}
 
 -- a comparison of hosts
 abbrev pub Hosts : Type 0
 Hosts = List ℕ → List ℕ → Bool
 
--- Hosts that name one server: the one place that says so. They are compared byte by byte.
+-- Hosts that name one server: the one place that says so. Addresses are compared by family and number, others with letters alike in either case.
 unfoldable pub hostsAlike : Hosts
-hostsAlike s t = same s t
+hostsAlike s t = oneServer s t
 
 -- m and n mean one clock: they are equal, or two hosts that `hosts` calls alike, with one port
 pub data OneClock (hosts : Hosts) (m n : RefMeaning) : Type 0 where

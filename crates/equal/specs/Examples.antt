@@ -14,7 +14,8 @@ use Rattle.clock.specs.declared.OptPort.the-variants.{NoPort}
 use Rattle.clock.specs.declared.NtpServerAddr.the-variants.{HostPort}
 use Rattle.clock.specs.declared.ReferenceClock.the-variants.{Ntp}
 use Rattle.meaning.specs.Meaning.{RefMeaning, refMeaning, ntpHost, ptp, ownVersion, ieee1588-2008, traceable, gmid, name, number, gps, gal, refExt}
-use Rattle.equal.specs.Fingerprint.{mixed, mixedText, mixedNumbers, columns, hostPrint, fingerprint}
+use Rattle.hostprint.specs.Mixed.{mixed, mixedText}
+use Rattle.equal.specs.Fingerprint.{mixedNumbers, columns, fingerprint}
 use Rattle.equal.specs.Private.Flat.{clockSays, sameNumbers, sameBehind, alikeFlat}
 use Rattle.equal.specs.Private.Test.{alike}
 
@@ -54,8 +55,11 @@ places : Each (λ (p : (List ℕ × Place) × (List ℕ × Place)). alike same (
 unfolding refMeaning bytesAt alike alikeFlat sameBehind sameNumbers clockSays same
 places = refl
 
--- respelled, a record keeps its fingerprint; one that differs in any part has another
-prints : Each (λ (p : RefMeaning × RefMeaning). eqb (fingerprint hostPrint (p .0)) (fingerprint hostPrint (p .1))) (
+-- respelled, a record keeps its fingerprint; one that differs in any part has another, hosts printed here by their bytes
+abbrev printed : RefMeaning → ℕ
+printed m = fingerprint (mixedText 0) m
+
+prints : Each (λ (p : RefMeaning × RefMeaning). eqb (printed (p .0)) (printed (p .1))) (
     (hostAt (word "ntp=h", place 4 1), hostAt (word "h", place 0 1)) gives true
     ∷ (ntpHost (word "h") none, ntpHost (word "g") none) gives false
     ∷ (ntpHost (word "h") none, ntpHost (word "h") (some 0)) gives false
@@ -66,5 +70,5 @@ prints : Each (λ (p : RefMeaning × RefMeaning). eqb (fingerprint hostPrint (p 
     ∷ (refExt (word "x") none, refExt (word "x") (some [])) gives false
     ∷ (refExt (word "xy") (some (word "z")), refExt (word "x") (some (word "yz"))) gives false
     ∷ [])
-unfolding refMeaning bytesAt fingerprint hostPrint columns mixedNumbers mixedText mixed
+unfolding refMeaning bytesAt fingerprint columns mixedNumbers mixedText mixed
 prints = refl

@@ -1,26 +1,19 @@
 -- A number that records of one clock share, so that most others are told apart by it alone. Nothing rests on which number it is but the time of a
 -- search. `proofs/Shared.antt` proves the statements.
-use Prim.Native.Nat.{ℕ, suc, _+_, _*_, _/_, _%_, _<_}
+use Prim.Native.Nat.{ℕ, suc, _/_, _<_}
 use mathlib.Core.Path.{_≡_}
-use mathlib.Core.List.{List, [], _∷_}
+use mathlib.Core.List.{List, []}
 use mathlib.Core.Bool.{true}
 use mathlib.Core.Option.{none, some}
+use Rattle.hostprint.specs.Mixed.{mixed, mixedText}
+use Rattle.hostprint.specs.Server.{printOfHost}
 use Rattle.meaning.specs.Meaning.{Server, RefMeaning}
 use Rattle.meaning.specs.Meaning as means
 use Rattle.equal.specs.Alike.{Hosts, hostsAlike, OneClock}
 
--- one number taken into another, in 32 bits
-unfoldable pub mixed : ℕ → ℕ → ℕ
-mixed n k = (n * 16777619 + k) % 4294967296
-
--- the bytes of a text, one after another
-unfoldable pub mixedText : ℕ → List ℕ → ℕ
-mixedText n [] = n
-mixedText n (b ∷ s) = mixedText (mixed n b) s
-
 -- The print of a host, which hosts that `hostsAlike` calls alike share: the one place that changes with it.
 unfoldable pub hostPrint : List ℕ → ℕ
-hostPrint h = mixedText 0 h
+hostPrint h = printOfHost h
 
 -- which clock and which form of it, and its numbers; of the second, which has 64 bits, both halves
 unfoldable pub mixedNumbers : ℕ → ℕ → ℕ → ℕ → ℕ → ℕ → ℕ

@@ -21,7 +21,7 @@ use text::Place;
 fn hosts_alike(s: &[u8], t: &[u8]) -> bool
     ensures { λ r. ⌜ r ≡ hostsAlike (now (s .entry)) (now (t .entry)) ⌝ }
 {
-    text::is_word(s, t)
+    hosts::one_server(s, t)
 }
 
 fn hosts_at(v: &[u8], p: Place, w: &[u8], q: Place) -> bool

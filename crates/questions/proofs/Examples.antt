@@ -22,6 +22,8 @@ use Rattle.meaning.specs.Meaning.{refMeaning}
 use Rattle.meaning.proofs.Rows.{short, ref-plain, each-where}
 use Rattle.equal.specs.Private.Flat.{clockSays, sameNumbers, sameBehind, alikeFlat}
 use Rattle.equal.specs.Private.Test.{alike}
+use Rattle.ipaddr.specs.Number.{octetsFrom, octetsOf, paired, groupsFrom, sideGroups, groupsOf, ipAddressOf}
+use Rattle.hosts.specs.Server.{lower, folded, oneServer}
 use Rattle.equal.specs.Alike.{hostsAlike}
 use Rattle.questions.specs.Private.Test.{bothAlike, sameClock}
 use Rattle.questions.specs.Governing.{gmidPlace, namePlace, readPlace, clockPlace}
@@ -51,7 +53,7 @@ pub pairs-hold : Each (ofPair sameClock) pairs
 unfolding clockOf ntpOf hostOf bracketOf addressOf portOf ptpOf versionOf serverOf gmidOf domainOf bareRead extensionOf refMeaning before beforePair
     throughLast same endsIn bytesAt numberOf digitsOf allDigits valueFrom hexDigit eui64Of segmentsOf segmentOf highDigit cutAtEach ipAddress
     ipv6address ipv4address ls32 doubleColon h16colon h16 decOctet hexdig nothing range _or_ _then_ times upto clockSays sameNumbers sameBehind
-    alikeFlat alike hostsAlike
+    alikeFlat alike hostsAlike oneServer folded lower ipAddressOf octetsFrom octetsOf paired groupsFrom sideGroups groupsOf
 pairs-hold = each-where (ofPair sameClock) (ofPair plainSame) shortPair same-plain pairs refl refl
 
 pub places-hold : Each clockPlace places

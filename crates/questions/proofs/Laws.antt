@@ -1,5 +1,5 @@
 -- One law for each way out of the crate's functions. Assumes nothing.
-use Prim.Native.Nat.{ℕ, _+_, _≤_}
+use Prim.Native.Nat.{ℕ, _+_, _≤_, _<_}
 use mathlib.Core.Path.{_≡_, sym, _∙_}
 use mathlib.Core.List.{List, [], _∷_}
 use mathlib.Core.Bool.{Bool, false}
@@ -40,7 +40,8 @@ use Rattle.meaning.specs.Meaning.{refMeaning}
 use Rattle.equal.specs.Decides.{Decides}
 use Rattle.equal.specs.Alike.{OneClock, hostsAlike}
 use Rattle.questions.specs.SameClock.{SameClock}
-use Rattle.questions.specs.Governing.{whole, gmidPlace, ntpName, ptpName, namePlace, clockPlace, governor, Governing}
+use Rattle.questions.specs.Governing.{whole, gmidPlace, ntpName, ptpName, namePlace, clockPlace, governor, Governing, governingAt, governingPlace}
+use Rattle.questions.specs.declared.Level.the-variants.{Session, Media}
 
 -- what is not so is decided by no
 decides-not : (P : Type 0) → (P → ⊥) → Decides false P
@@ -143,6 +144,16 @@ module _ (session media r : Lent) where
   unfolding governor
   by-media h e = simp (ne-eqb _ _ h) e
 
+-- `governing_place`
+module _ (session media : List ℕ) (p : Place) where
+  pub place-in-media : 0 < length media → p ≡ clockPlace media → governingAt Media p ≡ governingPlace session media
+  unfolding governingPlace
+  place-in-media h e = simp (ne-eqb (length media) 0 (λ z. omega arith), e)
+
+  pub place-in-session : length media ≤ 0 → p ≡ clockPlace session → governingAt Session p ≡ governingPlace session media
+  unfolding governingPlace
+  place-in-session h e = simp (eq-eqb (length media) 0 (omega arith), e)
+
 pub ruleset laws = (
   first-refused,
   second-refused,
@@ -162,4 +173,6 @@ pub ruleset laws = (
   part-named,
   by-session,
   by-media,
+  place-in-media,
+  place-in-session,
 )

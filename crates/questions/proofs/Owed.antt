@@ -1,10 +1,12 @@
--- The same-clock question is an equivalence on accepted values and means equal records; the GMID stands at its place; one part governs. Assumes nothing.
+-- The same-clock question is an equivalence on accepted values and means records that are equal but for hosts; the GMID stands at its place; one part
+-- governs. Assumes nothing.
 use Prim.Native.Nat.{ℕ, _+_}
 use mathlib.Core.Path.{_≡_, refl, sym, ap, _∙_}
 use mathlib.Core.List.{List}
 use mathlib.Core.Bool.{Bool, true, false, cond}
+use mathlib.Core.Option.{Option, none, some}
 use native.Mathlib.Omega.{arith}
-use lib.Dec.{ltb}
+use lib.Dec.{eqb, ltb}
 use lib.ListN.{length, take, drop}
 use Rattle.text.specs.Find.{before}
 use Rattle.text.specs.Word.{word, same, starts}
@@ -28,18 +30,19 @@ use Rattle.clock.specs.declared.ReferenceClockRead.the-variants.{Accepted, Refu
 use Rattle.meaning.specs.Answer.{Answer, accepted, _>>=_, empty, extensionOf}
 use Rattle.meaning.specs.Domain.{bare}
 use Rattle.meaning.specs.ReferenceClock.{gmidOf, domainOf, versionOf, serverOf, ntpOf, ptpOf, clockOf, referenceClockOf, readReferenceClock}
-use Rattle.meaning.specs.Meaning.{refMeaning}
+use Rattle.meaning.specs.Meaning.{RefMeaning, refMeaning}
+use Rattle.meaning.specs.Meaning as means
 use Rattle.meaning.proofs.Told.{through, was-accepted, was-made, starts-cut, further}
 use Rattle.meaning.proofs.Ptp.{was-gmid}
 use Rattle.meaning.proofs.Demand3.{ref-answer}
 use Rattle.equal.specs.Decides.{Decides}
-use Rattle.equal.specs.Alike.{OneClock, equal, hostsAlike}
+use Rattle.equal.specs.Alike.{OneClock, equal, servers, hostsAlike}
 use Rattle.equal.specs.Equality.{Equivalence}
-use Rattle.equal.proofs.Equality.{one-equal, alike-decides, classes}
+use Rattle.equal.proofs.Equality.{alike-decides, classes}
 use Rattle.questions.specs.SameClock.{SameClock}
 use Rattle.questions.specs.Private.Test.{bothAlike, sameClock}
-use Rattle.questions.specs.Governing.{gmidPlace, clockPlace, governor, GoverningSettled}
-use Rattle.questions.specs.Owed.{Classes, SameIsEqual, GmidThere}
+use Rattle.questions.specs.Governing.{gmidPlace, clockPlace, governor, governingPlace, PlaceGoverns, GoverningSettled}
+use Rattle.questions.specs.Owed.{Classes, EqualIsSame, hostIn, withoutHost, SameIsEqualButHosts, GmidThere}
 use Rattle.questions.specs.Private.Test.{SameClockDecides}
 use Rattle.questions.proofs.Laws.{first-refused, second-refused, both-accepted}
 
@@ -80,16 +83,70 @@ same-classes =
           };
     }
 
-pub same-is-equal : SameIsEqual
-unfolding hostsAlike
-same-is-equal v w = (
+pub equal-is-same : EqualIsSame
+equal-is-same v w q =
+    record {
+      first = q .first;
+      second = q .second;
+      is-first = q .is-first;
+      is-second = q .is-second;
+      one = equal (q .equal);
+    }
+
+-- one clock is told by the hosts and by all else
+same-else : (m n : RefMeaning) → OneClock hostsAlike m n → withoutHost m ≡ withoutHost n
+same-else m n (equal e) = ap withoutHost e
+same-else m n (servers h g port e a b) = rw (a, b) refl
+
+same-hosts : (m n : RefMeaning) → OneClock hostsAlike m n → (h g : List ℕ) → hostIn m ≡ some h → hostIn n ≡ some g → hostsAlike h g ≡ true
+same-hosts m n (equal e) h g eh eg =
+    let k : h ≡ g = cc (sym eh ∙ ap hostIn e ∙ eg) in
+    rw k (classes .of-hosts .to-self g)
+same-hosts m n (servers i j port e a b) h g eh eg =
+    let p : i ≡ h = cc (ap hostIn a, eh) in
+    let q : j ≡ g = cc (ap hostIn b, eg) in
+    rw (← p, ← q) e
+
+-- a record has a host, or loses nothing with it
+data HostView (m : RefMeaning) : Type 0 where
+  no-host : hostIn m ≡ none → withoutHost m ≡ m → HostView m
+  a-host : (h : List ℕ) (port : Option ℕ) → m ≡ means.ntpHost h port → HostView m
+
+host-view : (m : RefMeaning) → HostView m
+host-view means.ntpTraceable = no-host refl refl
+host-view (means.ntpHost h port) = a-host h port refl
+host-view (means.ptp version server) = no-host refl refl
+host-view means.gps = no-host refl refl
+host-view means.gal = no-host refl refl
+host-view means.glonass = no-host refl refl
+host-view means.local = no-host refl refl
+host-view means.privateStandard = no-host refl refl
+host-view means.privateTraceable = no-host refl refl
+host-view (means.refExt name value) = no-host refl refl
+
+-- and by nothing more
+one-of-both : (m n : RefMeaning) → withoutHost m ≡ withoutHost n
+    → ((h g : List ℕ) → hostIn m ≡ some h → hostIn n ≡ some g → hostsAlike h g ≡ true) → OneClock hostsAlike m n
+one-of-both m n e f = go (host-view m) (host-view n)
+  where
+    go : HostView m → HostView n → OneClock hostsAlike m n
+    go (no-host a b) (no-host c d) = equal (sym b ∙ e ∙ d)
+    go (no-host a b) (a-host g port c) = clash (cc (sym a ∙ ap hostIn (sym b ∙ e ∙ ap withoutHost c)))
+    go (a-host h port a) (no-host c d) = clash (cc (sym c ∙ ap hostIn (sym d ∙ sym e ∙ ap withoutHost a)))
+    go (a-host h port a) (a-host g other b) =
+        let p : port ≡ other = cc (sym (ap withoutHost a) ∙ e ∙ ap withoutHost b) in
+        servers h g port (f h g (ap hostIn a) (ap hostIn b)) a (rw p b)
+
+pub same-is-equal-but-hosts : SameIsEqualButHosts
+same-is-equal-but-hosts v w = (
   λ b.
       record {
         first = b .first;
         second = b .second;
         is-first = b .is-first;
         is-second = b .is-second;
-        equal = one-equal (refMeaning v (b .first)) (refMeaning w (b .second)) (b .one);
+        equal-but = same-else (refMeaning v (b .first)) (refMeaning w (b .second)) (b .one);
+        alike = same-hosts (refMeaning v (b .first)) (refMeaning w (b .second)) (b .one);
       },
   λ b.
       record {
@@ -97,7 +154,7 @@ same-is-equal v w = (
         second = b .second;
         is-first = b .is-first;
         is-second = b .is-second;
-        one = equal (b .equal);
+        one = one-of-both (refMeaning v (b .first)) (refMeaning w (b .second)) (b .equal-but) (b .alike);
       },
 )
 
@@ -190,3 +247,7 @@ gmid-there v x g d h =
 
 pub governing-settled : GoverningSettled
 governing-settled session media = let v = governor session media in part-settled v (clockPlace (v .now))
+
+pub place-governs : PlaceGoverns
+unfolding governingPlace governor
+place-governs session media r e = by-bool (eqb (length (media .now)) 0) (λ f. simp f (simp f at e)) (λ f. simp f (simp f at e))

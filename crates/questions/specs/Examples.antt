@@ -10,13 +10,16 @@ use Rattle.text.specs.Example.{Example, _gives_}
 abbrev pub ofPair : (List ℕ → List ℕ → Bool) → List ℕ × List ℕ → Bool
 ofPair f p = f (p .0) (p .1)
 
--- whether two values name the same clock: numbers however they are spelled, absent and empty apart, hosts byte by byte, refused never
+-- whether two values name the same clock: numbers however they are spelled, absent and empty apart, hosts as servers are, refused never
 abbrev pub pairs : List (Example (List ℕ × List ℕ) Bool)
 pairs =
     (word "ntp=h:80", word "ntp=h:+080") gives true
     ∷ (word "ntp=h:80", word "ntp=h") gives false
-    ∷ (word "ntp=h", word "ntp=H") gives false
+    ∷ (word "ntp=NTP.local", word "ntp=ntp.local") gives true
+    ∷ (word "ntp=h:80", word "ntp=H:81") gives false
+    ∷ (word "ntp=h@", word "ntp=h`") gives false
     ∷ (word "ntp=[::1]", word "ntp=::1") gives true
+    ∷ (word "ntp=[::A]:80", word "ntp=[::00a]:80") gives true
     ∷ (word "ptp=V:+1-00-00-00-00-00-00-0a:5", word "ptp=V:01-00-00-00-00-00-00-0A:005") gives true
     ∷ (word "ptp=V:01-00-00-00-00-00-00-0A:5", word "ptp=W:01-00-00-00-00-00-00-0A:5") gives false
     ∷ (word "gps", word "gps") gives true

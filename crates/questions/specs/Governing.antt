@@ -17,6 +17,9 @@ use Rattle.clock.specs.declared.ReferenceClock.the-variants as clock
 use Rattle.clock.specs.declared.ReferenceClockRead.{ReferenceClockRead}
 use Rattle.clock.specs.declared.ReferenceClockRead.the-variants.{Accepted, Refused}
 use Rattle.meaning.specs.ReferenceClock.{readReferenceClock}
+use Rattle.questions.specs.declared.Level.{Level}
+use Rattle.questions.specs.declared.Level.the-variants.{Session, Media}
+use Rattle.questions.specs.declared.GoverningPlace.{GoverningPlace}
 
 -- the value v, of which c is the record
 module _ (v : List ℕ) where
@@ -61,6 +64,18 @@ governor session media = cond (eqb (length (media .now)) 0) session media
 -- r is that part of the value that governs, in its memory
 abbrev pub Governing : Lent → Lent → Lent → Type 0
 Governing session media r = PartAt (governor session media) (clockPlace (governor session media .now)) r
+
+-- which of the two governs, and the place of that part in it
+abbrev pub governingAt : Level → Place → GoverningPlace
+governingAt l p = record { level = l; place = p }
+
+unfoldable pub governingPlace : List ℕ → List ℕ → GoverningPlace
+governingPlace session media = cond (eqb (length media) 0) (governingAt Session (clockPlace session)) (governingAt Media (clockPlace media))
+
+-- it is the place of the part that governs. `proofs/Owed.antt` proves it
+abbrev pub PlaceGoverns : Type 0
+PlaceGoverns =
+    (session media r : Lent) → Governing session media r → PartAt (governor session media) (governingPlace (session .now) (media .now) .place) r
 
 -- so much is settled: two answers are one part of it. `proofs/Owed.antt` proves it
 abbrev pub GoverningSettled : Type 0

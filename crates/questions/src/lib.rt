@@ -4,13 +4,25 @@ ghost use Prim.Native.Nat.{_≤_};
 ghost use lib.ListN.{length};
 ghost use Rattle.equal.specs.Decides.{Decides};
 ghost use Rattle.questions.specs.SameClock.{SameClock};
-ghost use Rattle.questions.specs.Governing.{whole, gmidPlace, ntpName, ptpName, namePlace, clockPlace, Governing};
+ghost use Rattle.questions.specs.Governing.{whole, gmidPlace, ntpName, ptpName, namePlace, clockPlace, Governing, governingPlace};
 ghost use Rattle.text.specs.Place.{PartAt};
 use clock::NtpServerAddr;
 use clock::PtpServer;
 use clock::ReferenceClock;
 use clock::ReferenceClockRead;
 use text::Place;
+
+// The level of a session text that a value stands at.
+pub enum Level {
+    Session,
+    Media,
+}
+
+// Which value governs, and the place in it of the part that names the clock.
+pub struct GoverningPlace {
+    pub level: Level,
+    pub place: Place,
+}
 
 // Whether two values name the same clock.
 pub fn same_clock(a: &[u8], b: &[u8]) -> bool
@@ -110,4 +122,20 @@ pub fn governing_clock<'a>(session: &'a [u8], media: &'a [u8]) -> &'a [u8]
         return clock_part(session);
     }
     clock_part(media)
+}
+
+// Where that part stands.
+pub fn governing_place(session: &[u8], media: &[u8]) -> GoverningPlace
+    ensures { λ r. ⌜ r ≡ governingPlace (now (session .entry)) (now (media .entry)) ⌝ }
+{
+    if 0 < media.len() {
+        return GoverningPlace {
+            level: Level::Media,
+            place: clock_place(media),
+        };
+    }
+    GoverningPlace {
+        level: Level::Session,
+        place: clock_place(session),
+    }
 }

@@ -4,11 +4,11 @@ use borrow.Author.Needs.{needs}
 use Rattle.equal.proofs.prints.host_print.Statement.{statement}
 use Rattle.equal.proofs.prints.host_print.Tie as tie
 
-mix-text-requires : tie.Need-mix-text-requires
-mix-text-requires c κs = search needs
+print-of-host-requires : tie.Need-print-of-host-requires
+print-of-host-requires c κs = search needs
 
 returns : tie.Need-returns
 returns c = search (needs, laws)
 
 pub host-print-spec : {M : Type 1} → statement M
-host-print-spec = tie.close (tie.spec mix-text-requires returns)
+host-print-spec = tie.close (tie.spec print-of-host-requires returns)
