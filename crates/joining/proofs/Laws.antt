@@ -24,8 +24,8 @@ use Rattle.counts.specs.Outcome.{doneWith, refusedWith, leaves, refuses, Does}
 use Rattle.counts.specs.declared.Census.{Census}
 use Rattle.counts.specs.declared.Called.{Called}
 use Rattle.counts.proofs.Laws.{does-refuse, does-leave, does-same}
-use Rattle.joining.specs.Joining.{addedMemory, joinedMemory, joinSlots, joinClocks, joinRead, joinOutcome, Joins}
-use Rattle.joining.specs.Private.Clock.{Adds, Moves, JoinsClocks}
+use Rattle.joining.specs.Joining.{addedMemory, joinedMemory, Moves, joinSlots, joinClocks, joinRead, joinOutcome, Joins}
+use Rattle.joining.specs.Private.Clock.{Adds, JoinsClocks}
 
 -- `add_streams`, `move_streams`
 module _ (m : List ℕ) (i j : ℕ) where

@@ -29,6 +29,11 @@ addedMemory m i j = sets m (j * slotSize) (quad (plus (streamsAt m j) (streamsAt
 abbrev pub joinedMemory : List ℕ → ℕ → ℕ → List ℕ
 joinedMemory m i j = sets (addedMemory m i j) (i * slotSize) (quad 0)
 
+-- they are moved, and n is their number
+pub record Moves (m : List ℕ) (i j n : ℕ) (m′ : List ℕ) : Type 0 where
+  pub number : n ≡ streamsAt m i
+  pub memory : m′ ≡ joinedMemory m i j
+
 -- the clock `from` of the slot i is joined into the clock `into` of the slot j
 unfoldable pub joinSlots : Census → List ℕ → ℕ → ReferenceClock → ℕ → ReferenceClock → Outcome
 joinSlots c m i from j into =

@@ -1,8 +1,8 @@
 // A clock is joined into another: its streams are then the other's.
 ghost use mathlib.Core.Path.{_≡_};
 ghost use Rattle.counts.specs.Outcome.{Does};
-ghost use Rattle.joining.specs.Joining.{joinSlots, Joins};
-ghost use Rattle.joining.specs.Private.Clock.{Adds, Moves, JoinsClocks};
+ghost use Rattle.joining.specs.Joining.{Moves, joinSlots, Joins};
+ghost use Rattle.joining.specs.Private.Clock.{Adds, JoinsClocks};
 use clock::ReferenceClock;
 use clock::ReferenceClockRead;
 use counts::Called;
@@ -21,7 +21,7 @@ fn add_streams(memory: &mut [u8], i: u16, j: u16) -> u32
 }
 
 // And the slot i has none then: it is free.
-fn move_streams(memory: &mut [u8], i: u16, j: u16) -> u32
+pub fn move_streams(memory: &mut [u8], i: u16, j: u16) -> u32
     ensures { λ r. ⌜ Moves (now (memory .entry)) i j r (now (memory .exit)) ⌝ }
 {
     let n = add_streams(memory, i, j);

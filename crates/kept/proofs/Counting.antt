@@ -22,7 +22,8 @@ use Rattle.streams.specs.Streams.{Streams, isRefused, ofClock, clocksIn}
 use Rattle.streams.specs.Calls.{count, fits, firstOf, reasons, answer, next}
 use Rattle.streams.specs.declared.Uncounted.the-variants.{NoMemory, TotalFull, ClocksFull}
 use Rattle.streams.specs.declared.Verdict.the-variants.{Done, Refused}
-use Rattle.streams.specs.Private.Book.{names, Stands}
+use Rattle.streams.specs.Book.{Stands}
+use Rattle.streams.specs.Private.Entries.{names}
 use Rattle.streams.proofs.Lists.{number-most}
 use Rattle.streams.proofs.Book.{Altered, named-streams, named-count, unnamed-count, counts-known, counts-refused, counts-new, counts-more, room-yes, room-no}
 use Rattle.naming.specs.Domain.{orNone, domainIn}
@@ -34,14 +35,15 @@ use Rattle.counts.specs.State.{census, usedIn, plus, more, oneMore}
 use Rattle.counts.specs.declared.Census.{Census}
 use Rattle.counting.specs.Counting.{oneRefusedMore, countKnown, countNew, countClock, countOutcome}
 use Rattle.counting.proofs.Laws.{accepted-short}
-use Rattle.kept.specs.Private.Keeps.{view, Keeps}
+use Rattle.kept.specs.Holds.{view}
+use Rattle.kept.specs.Private.Keeps.{Keeps}
 use Rattle.kept.proofs.Domains.{more-size}
 use Rattle.kept.proofs.Slots.{recounts, prints-recounted, renews, prints-renewed}
 use Rattle.kept.proofs.Found.{G, is-accepted, Right, right-refuse, right-leave, short-answer, long-answer, found, free, not-live, one-more}
 
 module _ (R : Rule) (C : ClockRule R) (c : Census) (m : List ℕ) (l : Streams) (K : Keeps R c m l) where
   S : Stands R mostClocks (view c m) l
-  S = K .stands
+  S = K .holds .stands
 
   module _ (t : ltb (length m) leastMemory ≡ false) (v : Value) (f : leb mostStreams (c .total) ≡ false) where
     enough : leastMemory ≤ length m
@@ -61,12 +63,14 @@ module _ (R : Rule) (C : ClockRule R) (c : Census) (m : List ℕ) (l : Streams) 
         let a : R .accepted v ≡ false = C .accepted v ∙ ap isAccepted e in
         right-leave R C (oneRefusedMore c) m (simp (t, f, e)) (count-answer (simp a))
         (record {
-          stands =
-              counts-refused R (G R C) mostClocks (view c m) l S v a (view (oneRefusedMore c) m) refl (λ j h. (refl, refl))
-              (omega (arith, S .refused, number-most (isRefused R) l, room)) (omega (arith, S .total, room)) (λ d h. refl);
-          small = omega (arith, room);
-          each = K .each;
-          used = K .used;
+          holds = record {
+            stands =
+                counts-refused R (G R C) mostClocks (view c m) l S v a (view (oneRefusedMore c) m) refl (λ j h. (refl, refl))
+                (omega (arith, S .refused, number-most (isRefused R) l, room)) (omega (arith, S .total, room)) (λ d h. refl);
+            small = omega (arith, room);
+            each = K .holds .each;
+            used = K .holds .used;
+          };
           prints = K .prints;
         })
 
@@ -90,13 +94,15 @@ module _ (R : Rule) (C : ClockRule R) (c : Census) (m : List ℕ) (l : Streams) 
           right-leave R C c′ m′ (simp (t, f, reads, lt-ltb i (usedIn c) h))
           (count-answer (simp (accepted, lt-ltb 0 (ofClock R v l) (omega arith))))
           (record {
-            stands =
-                counts-known R (G R C) mostClocks (view c m) l S v i h e (view c′ m′) refl A
-                refl (omega (arith, S .total, room)) (one-more R C c m l K v k reads room);
-            small = omega (arith, room);
-            each = more-size (orNone (domainIn k)) 1 (c .domains) ∙ K .each;
-            used = K .used;
-            prints = prints-recounted m i (plus (streamsAt m i) 1) in-i (usedIn c) (K .prints) h (not-live R C c m l K i o);
+            holds = record {
+              stands =
+                  counts-known R (G R C) mostClocks (view c m) l S v i h e (view c′ m′) refl A
+                  refl (omega (arith, S .total, room)) (one-more R C c m l K v k reads room);
+              small = omega (arith, room);
+              each = more-size (orNone (domainIn k)) 1 (c .domains) ∙ K .holds .each;
+              used = K .holds .used;
+            };
+            prints = prints-recounted m i (plus (streamsAt m i) 1) in-i (usedIn c) (K .prints) (λ g. not-live R C c m l K i o);
           })
 
       -- a clock that is new
@@ -133,21 +139,23 @@ module _ (R : Rule) (C : ClockRule R) (c : Census) (m : List ℕ) (l : Streams) 
             right-leave R C c′ m′ (simp (t, f, reads, le-ltb i (usedIn c) h, lt-leb mostClocks j g))
             (count-answer (simp (accepted, none-yet, lt-ltb (clocksIn R l) mostClocks (room-yes R (G R C) mostClocks (view c m) l S j F g))))
             (record {
-              stands =
-                  by-bool (ltb j (usedIn c))
-                  (λ y.
-                  let b = ltb-true j (usedIn c) y in
-                  counts-new R (G R C) mostClocks (view c m) l S v accepted unnamed j b (F .holds b) (view c′ m′) (omega arith) A
-                  refl (omega (arith, S .total, room)) (one-more R C c m l K v k reads room))
-                  (λ y.
-                  let b = ltb-false j (usedIn c) y in
-                  let e : j ≡ usedIn c = omega (arith, F .most) in
-                  counts-more R (G R C) mostClocks (view c m) l S v accepted unnamed (omega arith) (view c′ m′) (omega arith)
-                  (subst (λ (x : ℕ). Altered (view c m) (view c′ m′) x v 1) e A)
-                  refl (omega (arith, S .total, room)) (one-more R C c m l K v k reads room));
-              small = omega (arith, room);
-              each = more-size (orNone (domainIn k)) 1 (c .domains) ∙ K .each;
-              used = omega arith;
+              holds = record {
+                stands =
+                    by-bool (ltb j (usedIn c))
+                    (λ y.
+                    let b = ltb-true j (usedIn c) y in
+                    counts-new R (G R C) mostClocks (view c m) l S v accepted unnamed j b (F .holds b) (view c′ m′) (omega arith) A
+                    refl (omega (arith, S .total, room)) (one-more R C c m l K v k reads room))
+                    (λ y.
+                    let b = ltb-false j (usedIn c) y in
+                    let e : j ≡ usedIn c = omega (arith, F .most) in
+                    counts-more R (G R C) mostClocks (view c m) l S v accepted unnamed (omega arith) (view c′ m′) (omega arith)
+                    (subst (λ (x : ℕ). Altered (view c m) (view c′ m′) x v 1) e A)
+                    refl (omega (arith, S .total, room)) (one-more R C c m l K v k reads room));
+                small = omega (arith, room);
+                each = more-size (orNone (domainIn k)) 1 (c .domains) ∙ K .holds .each;
+                used = omega arith;
+              };
               prints = prints-renewed m j v k reads in-j short (usedIn c) (usedIn c′) (K .prints) (F .most) (omega arith);
             })
 

@@ -23,7 +23,7 @@ use Rattle.streams.specs.Calls.{Call, firstOf, reasons, answer, next, after}
 use Rattle.streams.specs.declared.Uncounted.{Uncounted}
 use Rattle.streams.specs.declared.Uncounted.the-variants.{NoMemory}
 use Rattle.streams.specs.declared.Verdict.the-variants.{Done, Refused}
-use Rattle.streams.specs.Private.Book.{names}
+use Rattle.streams.specs.Private.Entries.{names}
 use Rattle.streams.proofs.Lists.{number-most}
 use Rattle.streams.proofs.Sums.{First, first-tells}
 use Rattle.naming.specs.Domain.{orNone, domainIn, domainOf}
@@ -31,14 +31,13 @@ use Rattle.naming.specs.ClockRule.{isAccepted, ClockRule}
 use Rattle.naming.proofs.ClockRule.{accepted-domain, is-lawful}
 use Rattle.slots.specs.Slot.{streamsAt, printAt, valueAt, isFree, freeSlot}
 use Rattle.slots.specs.Find.{OfClock, SlotOf}
+use Rattle.slots.proofs.Slots.{one-record}
 use Rattle.counts.specs.State.{usedIn, more, less}
 use Rattle.counts.specs.Outcome.{Outcome, leaves, refuses, calledWith, memoryAfter}
 use Rattle.counts.specs.declared.Census.{Census}
-use Rattle.kept.specs.Private.Keeps.{view, Keeps}
+use Rattle.kept.specs.Holds.{view}
+use Rattle.kept.specs.Private.Keeps.{Prints, Keeps}
 use Rattle.kept.proofs.Domains.{is-number, bit-of, more-count, less-count}
-
-one-record : (c d : ReferenceClock) → Accepted c ≡ Accepted d → c ≡ d
-one-record c d e = cc (e)
 
 module _ (R : Rule) (C : ClockRule R) where
   pub G : Lawful R
@@ -71,38 +70,43 @@ module _ (R : Rule) (C : ClockRule R) where
   unfolding answer firstOf
   long-answer m k l t = simp t
 
+  -- the slot of the clock k, which v names, among the first n
+  module _ (c : Census) (m : List ℕ) (n : ℕ) (P : Prints m n) (v : Value) (k : ReferenceClock) (reads : readReferenceClock v ≡ Accepted k) (i : ℕ)
+      (s : SlotOf m (refMeaning v k) n i) where
+    named-there : (j : ℕ) → OfClock m (refMeaning v k) j → names R (view c m) v j ≡ true
+    named-there j o =
+        both (ap not (ne-eqb (streamsAt m j) 0 (o .taken)))
+        (C .same v (valueAt m j) .found (record { first = k; second = o .clock; is-first = reads; is-second = o .reads; one = o .one }))
+
+    of-clock : (j : ℕ) → j < n → names R (view c m) v j ≡ true → OfClock m (refMeaning v k) j
+    of-clock j h t =
+        let live : isFree m j ≡ false = not-true (isFree m j) (and-left (not (isFree m j)) (R .same v (valueAt m j)) t) in
+        let q = C .same v (valueAt m j) .right (and-right (not (isFree m j)) (R .same v (valueAt m j)) t) in
+        let e : q .first ≡ k = one-record (q .first) k (sym (q .is-first) ∙ reads) in
+        let o : OneClock hostsAlike (refMeaning v k) (refMeaning (valueAt m j) (q .second)) = rw e at (q .one) in
+        record {
+          taken = λ z. eqb-false (streamsAt m j) 0 live z;
+          print = P j h live (q .second) (q .is-second) ∙ sym (one-clock-shares (refMeaning v k) (refMeaning (valueAt m j) (q .second)) o);
+          clock = q .second;
+          reads = q .is-second;
+          one = o;
+        }
+
+    pub found-among : First (names R (view c m) v) n i
+    found-among =
+        record {
+          most = s .most;
+          holds = λ h. named-there i (s .there h);
+          none = λ j h.
+              by-bool (names R (view c m) v j)
+              (λ t. absurd (s .none-before j h (of-clock j (omega (arith, s .most)) t)))
+              (λ t. t);
+        }
+
   module _ (c : Census) (m : List ℕ) (l : Streams) (K : Keeps R c m l) where
-    -- the slot of the clock k, which v names
-    module _ (v : Value) (k : ReferenceClock) (reads : readReferenceClock v ≡ Accepted k) (i : ℕ) (s : SlotOf m (refMeaning v k) (usedIn c) i) where
-      named-there : (j : ℕ) → OfClock m (refMeaning v k) j → names R (view c m) v j ≡ true
-      named-there j o =
-          both (ap not (ne-eqb (streamsAt m j) 0 (o .taken)))
-          (C .same v (valueAt m j) .found (record { first = k; second = o .clock; is-first = reads; is-second = o .reads; one = o .one }))
-
-      of-clock : (j : ℕ) → j < usedIn c → names R (view c m) v j ≡ true → OfClock m (refMeaning v k) j
-      of-clock j h t =
-          let live : isFree m j ≡ false = not-true (isFree m j) (and-left (not (isFree m j)) (R .same v (valueAt m j)) t) in
-          let q = C .same v (valueAt m j) .right (and-right (not (isFree m j)) (R .same v (valueAt m j)) t) in
-          let e : q .first ≡ k = one-record (q .first) k (sym (q .is-first) ∙ reads) in
-          let o : OneClock hostsAlike (refMeaning v k) (refMeaning (valueAt m j) (q .second)) = rw e at (q .one) in
-          record {
-            taken = λ z. eqb-false (streamsAt m j) 0 live z;
-            print = K .prints j h live (q .second) (q .is-second) ∙ sym (one-clock-shares (refMeaning v k) (refMeaning (valueAt m j) (q .second)) o);
-            clock = q .second;
-            reads = q .is-second;
-            one = o;
-          }
-
-      pub found : First (names R (view c m) v) (usedIn c) i
-      found =
-          record {
-            most = s .most;
-            holds = λ h. named-there i (s .there h);
-            none = λ j h.
-                by-bool (names R (view c m) v j)
-                (λ t. absurd (s .none-before j h (of-clock j (omega (arith, s .most)) t)))
-                (λ t. t);
-          }
+    pub found : (v : Value) (k : ReferenceClock) → readReferenceClock v ≡ Accepted k → (i : ℕ) → SlotOf m (refMeaning v k) (usedIn c) i
+        → First (names R (view c m) v) (usedIn c) i
+    found = found-among c m (usedIn c) (K .prints)
 
     pub free : First (isFree m) (usedIn c) (freeSlot m (usedIn c))
     unfolding freeSlot
@@ -112,7 +116,7 @@ module _ (R : Rule) (C : ClockRule R) where
     not-live j h = ne-eqb (streamsAt m j) 0 (λ e. omega arith)
 
     pub domain-small : (d : ℕ) → d < 128 → getD (c .domains) d 0 ≤ length l
-    domain-small d h = omega (arith, K .stands .domains d h, number-most (hasDomain R d) l)
+    domain-small d h = omega (arith, K .holds .stands .domains d h, number-most (hasDomain R d) l)
 
     -- the domain number of the clock k, which v names
     pub domain-is : (v : Value) (k : ReferenceClock) → readReferenceClock v ≡ Accepted k → (d : ℕ) → d < 128
@@ -124,10 +128,10 @@ module _ (R : Rule) (C : ClockRule R) where
       pub one-more : length l < mostStreams → (d : ℕ) → d < 128
           → getD (more (orNone (domainIn k)) 1 (c .domains)) d 0 ≡ getD (c .domains) d 0 + bit (hasDomain R d v)
       one-more s d h =
-          more-count (orNone (domainIn k)) 1 d (c .domains) (K .each) h (λ e. omega (arith, domain-small d h))
+          more-count (orNone (domainIn k)) 1 d (c .domains) (K .holds .each) h (λ e. omega (arith, domain-small d h))
           ∙ ap (λ (x : ℕ). getD (c .domains) d 0 + x) (bit-of (eqb (orNone (domainIn k)) d) ∙ ap bit (domain-is v k reads d h))
 
       pub one-less : (d : ℕ) → d < 128 → getD (less (orNone (domainIn k)) 1 (c .domains)) d 0 ≡ getD (c .domains) d 0 - bit (hasDomain R d v)
       one-less d h =
-          less-count (orNone (domainIn k)) 1 d (c .domains) (K .each) h
+          less-count (orNone (domainIn k)) 1 d (c .domains) (K .holds .each) h
           ∙ ap (λ (x : ℕ). getD (c .domains) d 0 - x) (bit-of (eqb (orNone (domainIn k)) d) ∙ ap bit (domain-is v k reads d h))

@@ -21,27 +21,28 @@ use Rattle.streams.specs.Streams.{Streams, ofClock, moved, joined}
 use Rattle.streams.specs.Calls.{join, firstOf, reasons, answer, next}
 use Rattle.streams.specs.declared.Uncounted.the-variants.{NoMemory, NoStream}
 use Rattle.streams.specs.declared.Verdict.the-variants.{Done, Refused}
-use Rattle.streams.specs.Private.Book.{names, Stands}
+use Rattle.streams.specs.Book.{Stands}
+use Rattle.streams.specs.Private.Entries.{names}
 use Rattle.streams.proofs.Lists.{number-most, number-within, number-apart, number-none, length-map}
 use Rattle.streams.proofs.Book.{Altered, named-streams, named-same, named-count, unnamed-count, joins}
 use Rattle.naming.specs.Domain.{orNone, domainIn}
 use Rattle.naming.specs.ClockRule.{isAccepted, ClockRule}
 use Rattle.quads.specs.Quad.{quad}
-use Rattle.quads.proofs.Windows.{quad-length}
 use Rattle.slots.specs.Slot.{slotSize, streamsAt, valueAt, isFree}
 use Rattle.slots.specs.Find.{SlotOf, SlotFor}
-use Rattle.slots.proofs.Change.{other-streams}
+use Rattle.slots.proofs.Change.{other-streams, recounts-inside}
 use Rattle.counts.specs.State.{census, usedIn, plus, more, less}
 use Rattle.counts.specs.declared.Census.{Census}
 use Rattle.joining.specs.Joining.{addedMemory, joinedMemory, joinSlots, joinClocks, joinRead, joinOutcome}
-use Rattle.kept.specs.Private.Keeps.{view, Prints, Keeps}
+use Rattle.kept.specs.Holds.{view}
+use Rattle.kept.specs.Private.Keeps.{Prints, Keeps}
 use Rattle.kept.proofs.Domains.{more-count, less-count, more-size, less-size}
 use Rattle.kept.proofs.Slots.{recounts, prints-recounted}
 use Rattle.kept.proofs.Found.{G, is-accepted, Right, right-refuse, right-leave, short-answer, long-answer, found, not-live, domain-is}
 
 module _ (R : Rule) (C : ClockRule R) (c : Census) (m : List ℕ) (l : Streams) (K : Keeps R c m l) where
   S : Stands R mostClocks (view c m) l
-  S = K .stands
+  S = K .holds .stands
 
   -- a refused value has no streams
   pub no-streams : (v : Value) (q : Refusal) → readReferenceClock v ≡ read.Refused q → ofClock R v l ≡ 0
@@ -127,10 +128,10 @@ module _ (R : Rule) (C : ClockRule R) (c : Census) (m : List ℕ) (l : Streams) 
 
         join-prints : (i ≡ j → ⊥) → Prints (joinedMemory m i j) (usedIn c)
         join-prints x =
-            let q : streamsAt (addedMemory m i j) i ≡ streamsAt m i = other-streams m j (quad both) (omega (arith, quad-length both)) i x in
+            let q : streamsAt (addedMemory m i j) i ≡ streamsAt m i = other-streams m j (j * slotSize) (quad both) (recounts-inside m j both) i x in
             prints-recounted (addedMemory m i j) i 0 (omega (arith, size, in-i)) (usedIn c)
-            (prints-recounted m j both in-j (usedIn c) (K .prints) hj (not-live R C c m l K j sj)) hi
-            (ap (λ (y : ℕ). eqb y 0) q ∙ not-live R C c m l K i si)
+            (prints-recounted m j both in-j (usedIn c) (K .prints) (λ g. not-live R C c m l K j sj))
+            (λ g. ap (λ (y : ℕ). eqb y 0) q ∙ not-live R C c m l K i si)
 
         domain-moved : (d : ℕ) → d < 128
             → getD (more (orNone (domainIn into)) n (less (orNone (domainIn from)) n (c .domains))) d 0
@@ -140,16 +141,16 @@ module _ (R : Rule) (C : ClockRule R) (c : Census) (m : List ℕ) (l : Streams) 
             ap (λ (x : Bool). cond x n 0) (domain-is R C c m l K v from reads d h) in
             let ew : cond (eqb (orNone (domainIn into)) d) n 0 ≡ cond (hasDomain R d w) n 0 =
             ap (λ (x : Bool). cond x n 0) (domain-is R C c m l K w into reads′ d h) in
-            let z : length (less (orNone (domainIn from)) n (c .domains)) ≡ 128 = less-size (orNone (domainIn from)) n (c .domains) ∙ K .each in
-            let e₁ = less-count (orNone (domainIn from)) n d (c .domains) (K .each) h in
+            let z : length (less (orNone (domainIn from)) n (c .domains)) ≡ 128 = less-size (orNone (domainIn from)) n (c .domains) ∙ K .holds .each in
+            let e₁ = less-count (orNone (domainIn from)) n d (c .domains) (K .holds .each) h in
             let bound : getD (less (orNone (domainIn from)) n (c .domains)) d 0 + n ≤ mostStreams =
             by-bool (hasDomain R d v)
             (λ y.
             let a = number-within (hasDomain R d) (R .same v) (λ x q. ap (is d) (sym (G R C .one-domain v x q)) ∙ y) l in
-            omega (arith, e₁, simp y at ev, ni, S .domains d h, number-most (hasDomain R d) l, K .small))
+            omega (arith, e₁, simp y at ev, ni, S .domains d h, number-most (hasDomain R d) l, K .holds .small))
             (λ y.
             let a = number-apart (hasDomain R d) (R .same v) (λ x q. ap (is d) (sym (G R C .one-domain v x q)) ∙ y) l in
-            omega (arith, e₁, simp y at ev, ni, S .domains d h, K .small)) in
+            omega (arith, e₁, simp y at ev, ni, S .domains d h, K .holds .small)) in
             let e₂ = more-count (orNone (domainIn into)) n d (less (orNone (domainIn from)) n (c .domains)) z h (λ e. bound) in
             omega (arith, e₁, e₂, ev, ew)
 
@@ -159,7 +160,7 @@ module _ (R : Rule) (C : ClockRule R) (c : Census) (m : List ℕ) (l : Streams) 
             let apart = two-clocks x in
             let disjoint : ofClock R v l + ofClock R w l ≤ length l =
             number-apart (R .same v) (R .same w) (λ z e. by-bool (R .same v z) (λ y. clash (cc (apart, G R C .on v z w y (G R C .back w z e)))) (λ y. y)) l in
-            let sum-is : both ≡ streamsAt m j + streamsAt m i = omega (arith, disjoint, ni, nj, K .small) in
+            let sum-is : both ≡ streamsAt m j + streamsAt m i = omega (arith, disjoint, ni, nj, K .holds .small) in
             let c′ = census (c .used) (c .total) (c .refused) (more (orNone (domainIn into)) n (less (orNone (domainIn from)) n (c .domains))) in
             let m₁ = addedMemory m i j in
             let m₂ = joinedMemory m i j in
@@ -170,13 +171,15 @@ module _ (R : Rule) (C : ClockRule R) (c : Census) (m : List ℕ) (l : Streams) 
             right-leave R C c′ m₂ (simp (t, reads, reads′, lt-ltb i (usedIn c) hi, lt-ltb j (usedIn c) hj, ne-eqb i j x)) join-answer
             (simp apart
             (record {
-              stands =
-                  joins R (G R C) mostClocks (view c m) l S v w apart i j hi hj ei ej (view c m₁) (view c′ m₂) refl refl A₁ A₂ refl refl domain-moved;
-              small = omega (arith, K .small, length-map (moved R v w) l);
-              each =
-                  more-size (orNone (domainIn into)) n (less (orNone (domainIn from)) n (c .domains))
-                  ∙ less-size (orNone (domainIn from)) n (c .domains) ∙ K .each;
-              used = K .used;
+              holds = record {
+                stands =
+                    joins R (G R C) mostClocks (view c m) l S v w apart i j hi hj ei ej (view c m₁) (view c′ m₂) refl refl A₁ A₂ refl refl domain-moved;
+                small = omega (arith, K .holds .small, length-map (moved R v w) l);
+                each =
+                    more-size (orNone (domainIn into)) n (less (orNone (domainIn from)) n (c .domains))
+                    ∙ less-size (orNone (domainIn from)) n (c .domains) ∙ K .holds .each;
+                used = K .holds .used;
+              };
               prints = join-prints x;
             }))
 

@@ -14,16 +14,18 @@ use Rattle.clock.specs.declared.ReferenceClockRead.the-variants as read
 use Rattle.meaning.specs.ReferenceClock.{readReferenceClock}
 use Rattle.meaning.specs.Meaning.{refMeaning}
 use Rattle.streams.specs.Rule.{Value, Rule}
-use Rattle.streams.specs.Limits.{limits, mostClocks}
+use Rattle.streams.specs.Limits.{limits, leastMemory, mostClocks}
 use Rattle.streams.specs.Streams.{Streams, numberOf, ofClock, refusedIn, clocksIn}
 use Rattle.streams.specs.Sums.{sum}
 use Rattle.streams.specs.Calls.{Call, count, withdraw, join, answer, after, countedBy, withdrawnBy}
 use Rattle.streams.specs.declared.Uncounted.{Uncounted}
 use Rattle.streams.specs.declared.Verdict.the-variants.{Done, Refused}
 use Rattle.streams.proofs.Total.{list-sum, list-parts}
+use Rattle.streams.proofs.Widened.{widened}
 use Rattle.streams.proofs.Book.{standing, clock-sum, named-count, unnamed-count}
 use Rattle.naming.specs.ClockRule.{isAccepted, ClockRule}
-use Rattle.slots.specs.Slot.{streamsAt, takenSlots, streamSum}
+use Rattle.naming.proofs.Before.{was-narrower}
+use Rattle.slots.specs.Slot.{streamsAt, valueAt, takenSlots, streamSum}
 use Rattle.slots.specs.Find.{SlotOf, SlotFor}
 use Rattle.slots.proofs.Slots.{slot-for}
 use Rattle.counts.specs.State.{freshCensus, usedIn, domainCount}
@@ -33,14 +35,19 @@ use Rattle.counts.specs.declared.Called.{Called}
 use Rattle.counting.specs.Counting.{countOutcome}
 use Rattle.withdrawing.specs.Withdrawing.{withdrawOutcome}
 use Rattle.joining.specs.Joining.{joinOutcome}
+use Rattle.uniting.specs.Uniting.{Unites}
+use Rattle.uniting.proofs.Settled.{unites-done, unites-short}
 use Rattle.asking.specs.Asking.{streamsIn, streamsRead, asked, AsksStreams}
 use Rattle.asking.specs.declared.Asked.{Asked}
-use Rattle.kept.specs.Private.Keeps.{view, Keeps}
-use Rattle.kept.specs.Kept.{Makes, Calls, fresh, more, AnswersAsList, Sum, RefusedChangesNothing, QuestionsAsked, QuestionsAsList}
+use Rattle.kept.specs.Holds.{view, HeldBefore}
+use Rattle.kept.specs.Private.Keeps.{Keeps}
+use Rattle.kept.specs.Kept.{Makes, Calls, fresh, united, more, AnswersAsList, Sum, RefusedChangesNothing, QuestionsAsked, QuestionsAsList}
+use Rattle.kept.specs.United.{CallsHold, BeforeHeld, BeforeUnited, UnitedStays}
 use Rattle.kept.proofs.Found.{G, Right, found}
 use Rattle.kept.proofs.Counting.{count-right}
 use Rattle.kept.proofs.Withdrawing.{withdraw-right}
 use Rattle.kept.proofs.Joining.{join-right, no-streams}
+use Rattle.kept.proofs.Uniting.{united-keeps, united-stays as stays}
 
 -- an outcome that refuses leaves all as it was
 does-nothing : (o : Outcome) (c : Census) (m : List ℕ) (r : Called) (m′ : List ℕ) (why : Uncounted) → Does o c m r m′ → r .verdict ≡ Refused why
@@ -82,23 +89,33 @@ module _ (R : Rule) (C : ClockRule R) where
   unfolding freshCensus numberOf clocksIn sum
   fresh-keeps m =
       record {
-        stands = record {
-          tallies = λ p resp ok. refl;
-          refused = refl;
-          total = refl;
-          domains = λ d h. getD-replicate 128 d 0 0 h;
-          accepted = λ i h f. absurd (omega arith);
-          apart = λ i j h g f e s. absurd (omega arith);
-          within = omega arith;
+        holds = record {
+          stands = record {
+            tallies = λ p resp ok. refl;
+            refused = refl;
+            total = refl;
+            domains = λ d h. getD-replicate 128 d 0 0 h;
+            accepted = λ i h f. absurd (omega arith);
+            apart = λ i j h g f e s. absurd (omega arith);
+            within = omega arith;
+          };
+          small = omega arith;
+          each = length-replicate {A = ℕ} 128 0;
+          used = omega arith;
         };
-        small = omega arith;
-        each = length-replicate {A = ℕ} 128 0;
-        used = omega arith;
         prints = λ i h f. absurd (omega arith);
       }
 
+  -- a census from before that was united
+  unites-right : (c : Census) (m : List ℕ) (l : Streams) (r : Called) (m′ : List ℕ) → HeldBefore R c m l → leastMemory ≤ length m → Unites c m r m′
+      → Keeps R (r .census) m′ l
+  unites-right c m l r m′ B enough w =
+      let d = unites-done c m r m′ w enough in
+      rw (d .0) (united-keeps R C c l m m′ B enough (d .1))
+
   kept : {c : Census} {m : List ℕ} {a w : ℕ} {l : Streams} → Calls R c m a w l → Keeps R c m l × (length l + w ≡ a)
   kept (fresh m) = (fresh-keeps m, refl)
+  kept (united c m l r m′ B enough w) = (unites-right c m l r m′ B enough w, omega arith)
   kept (more c m a w l k r m′ calls d) =
       let i = kept calls in
       let q = call-right c m l k r m′ (i .0) d in
@@ -118,14 +135,14 @@ module _ (R : Rule) (C : ClockRule R) where
         by-bool (ltb i (usedIn c))
         (λ t.
         let h = ltb-true i (usedIn c) t in
-        simp t (sym (named-count R (G R C) mostClocks (view c m) l (K .stands) v i h (f .holds h))))
+        simp t (sym (named-count R (G R C) mostClocks (view c m) l (K .holds .stands) v i h (f .holds h))))
         (λ t.
         let h = ltb-false i (usedIn c) t in
-        simp t (sym (unnamed-count R (G R C) mostClocks (view c m) l (K .stands) v (λ j g. f .none j (omega arith)))))
+        simp t (sym (unnamed-count R (G R C) mostClocks (view c m) l (K .holds .stands) v (λ j g. f .none j (omega arith)))))
 
     sum-right : streamSum m (usedIn c) + c .refused ≡ length l
     unfolding streamSum
-    sum-right = clock-sum R (G R C) mostClocks (view c m) l (K .stands)
+    sum-right = clock-sum R (G R C) (usedIn c) mostClocks (view c m) l (K .holds .stands)
 
     questions-right : QuestionsAsked R c m l
     unfolding domainCount takenSlots
@@ -134,12 +151,44 @@ module _ (R : Rule) (C : ClockRule R) where
           streams = λ v r a.
               let s = slot-for m v (usedIn c) in
               a .is (s .0) (s .1) ∙ ap (asked m) (streams-right v (s .0) (s .1) (readReferenceClock v) refl);
-          clocks = standing R (G R C) mostClocks (view c m) l (K .stands);
-          clock-sum = omega (arith, sum-right, K .stands .refused, list-parts R l);
-          domain = λ d h. simp (lt-ltb d 128 h) (K .stands .domains d h);
-          refused = K .stands .refused;
-          total = K .stands .total;
+          clocks = standing R (G R C) mostClocks (view c m) l (K .holds .stands);
+          clock-sum = omega (arith, sum-right, K .holds .stands .refused, list-parts R l);
+          domain = λ d h. simp (lt-ltb d 128 h) (K .holds .stands .domains d h);
+          refused = K .holds .stands .refused;
+          total = K .holds .stands .total;
         }
+
+pub calls-hold : CallsHold
+calls-hold R C c m a w l calls = kept R C calls .0 .holds
+
+pub before-held : BeforeHeld
+before-held Q R B C c m l H = record { rule = Q; narrower = was-narrower Q R B C; holds = H }
+
+pub before-united : BeforeUnited
+unfolding streamSum
+before-united R C c m l r m′ B enough w =
+    let d = unites-done c m r m′ w enough in
+    let e : r .census ≡ c = ap (λ (x : Called). x .census) (d .0) in
+    let K = unites-right R C c m l r m′ B enough w in
+    let K′ = united-keeps R C c l m m′ B enough (d .1) in
+    let S = widened (B .rule) R (B .narrower) (usedIn c) mostClocks (view c m) l (B .holds .stands) in
+    record {
+      verdict = ap (λ (x : Called). x .verdict) (d .0);
+      census = e;
+      sum = omega (arith, clock-sum R (G R C) 0 mostClocks (view c m) l S, sum-right R C c m′ l K′);
+      holds = K .holds;
+      asked = questions-right R C (r .census) m′ l K;
+      apart = λ i j hi hj fi fj s. K′ .holds .stands .apart i j hi hj fi fj (C .same (valueAt m′ i) (valueAt m′ j) .found s);
+    }
+
+pub united-stays : UnitedStays
+united-stays R C c m a n l r m′ calls w =
+    let K = kept R C calls .0 in
+    by-bool (ltb (length m) leastMemory)
+    (λ t. let d = unites-short c m r m′ w (ltb-true (length m) leastMemory t) in (ap (λ (x : Called). x .census) (d .0), d .1))
+    (λ t.
+    let d = unites-done c m r m′ w (ltb-false (length m) leastMemory t) in
+    (ap (λ (x : Called). x .census) (d .0), stays R C c l m K (d .1) (omega arith)))
 
 pub answers-as-list : AnswersAsList
 answers-as-list R C c m a w l k r m′ calls d = call-right R C c m l k r m′ (kept R C calls .0) d .answered

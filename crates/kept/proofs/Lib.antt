@@ -4,4 +4,5 @@ pub mod Found
 pub mod Counting
 pub mod Withdrawing
 pub mod Joining
+pub mod Uniting
 pub mod Kept

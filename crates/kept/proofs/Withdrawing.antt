@@ -21,7 +21,7 @@ use Rattle.streams.specs.Streams.{Streams, numberOf, without, isRefused, refuse
 use Rattle.streams.specs.Calls.{withdraw, firstOf, reasons, answer, next}
 use Rattle.streams.specs.declared.Uncounted.the-variants.{NoMemory, NoStream}
 use Rattle.streams.specs.declared.Verdict.the-variants.{Done, Refused}
-use Rattle.streams.specs.Private.Book.{Stands}
+use Rattle.streams.specs.Book.{Stands}
 use Rattle.streams.proofs.Lists.{number-most, number-alike, without-alike, length-without}
 use Rattle.streams.proofs.Sums.{over-zero}
 use Rattle.streams.proofs.Book.{Altered, named-streams, named-count, unnamed-count, withdraws, withdraws-refused}
@@ -33,14 +33,15 @@ use Rattle.slots.specs.Find.{SlotOf, SlotFor}
 use Rattle.counts.specs.State.{census, usedIn, less, oneLess}
 use Rattle.counts.specs.declared.Census.{Census}
 use Rattle.withdrawing.specs.Withdrawing.{withdrawRefused, withdrawKnown, withdrawClock, withdrawOutcome}
-use Rattle.kept.specs.Private.Keeps.{view, Keeps}
+use Rattle.kept.specs.Holds.{view}
+use Rattle.kept.specs.Private.Keeps.{Keeps}
 use Rattle.kept.proofs.Domains.{less-size}
 use Rattle.kept.proofs.Slots.{recounts, prints-recounted}
 use Rattle.kept.proofs.Found.{G, is-accepted, Right, right-refuse, right-leave, short-answer, long-answer, found, not-live, one-less}
 
 module _ (R : Rule) (C : ClockRule R) (c : Census) (m : List ℕ) (l : Streams) (K : Keeps R c m l) where
   S : Stands R mostClocks (view c m) l
-  S = K .stands
+  S = K .holds .stands
 
   module _ (t : ltb (length m) leastMemory ≡ false) (v : Value) where
     enough : leastMemory ≤ length m
@@ -69,10 +70,12 @@ module _ (R : Rule) (C : ClockRule R) (c : Census) (m : List ℕ) (l : Streams) 
         right-leave R C c′ m (simp (t, e, z)) (some-answer (omega arith))
         (rw (without-alike (like R v) (isRefused R) (λ s. simp a) l)
         (record {
-          stands = withdraws-refused R (G R C) mostClocks (view c m) l S y (view c′ m) refl (λ j h. (refl, refl)) refl refl (λ d h. refl);
-          small = omega (arith, K .small, length-without (isRefused R) l some);
-          each = K .each;
-          used = K .used;
+          holds = record {
+            stands = withdraws-refused R (G R C) mostClocks (view c m) l S y (view c′ m) refl (λ j h. (refl, refl)) refl refl (λ d h. refl);
+            small = omega (arith, K .holds .small, length-without (isRefused R) l some);
+            each = K .holds .each;
+            used = K .holds .used;
+          };
           prints = K .prints;
         })))
 
@@ -103,14 +106,16 @@ module _ (R : Rule) (C : ClockRule R) (c : Census) (m : List ℕ) (l : Streams) 
           right-leave R C c′ m′ (simp (t, reads, lt-ltb i (usedIn c) h)) (some-answer (omega (arith, same)))
           (rw (without-alike (like R v) (R .same v) (λ s. simp a) l)
           (record {
-            stands =
-                withdraws R (G R C) mostClocks (view c m) l S v i h e (view c′ m′) refl
-                (recounts m i (streamsAt m i - 1) in-i c c′ (omega (arith, n, number-most (R .same v) l, K .small)) (streamsAt m i - 1) refl)
-                refl refl (one-less R C c m l K v k reads);
-            small = omega (arith, K .small, length-without (R .same v) l some);
-            each = less-size (orNone (domainIn k)) 1 (c .domains) ∙ K .each;
-            used = K .used;
-            prints = prints-recounted m i (streamsAt m i - 1) in-i (usedIn c) (K .prints) h (not-live R C c m l K i o);
+            holds = record {
+              stands =
+                  withdraws R (G R C) mostClocks (view c m) l S v i h e (view c′ m′) refl
+                  (recounts m i (streamsAt m i - 1) in-i c c′ (omega (arith, n, number-most (R .same v) l, K .holds .small)) (streamsAt m i - 1) refl)
+                  refl refl (one-less R C c m l K v k reads);
+              small = omega (arith, K .holds .small, length-without (R .same v) l some);
+              each = less-size (orNone (domainIn k)) 1 (c .domains) ∙ K .holds .each;
+              used = K .holds .used;
+            };
+            prints = prints-recounted m i (streamsAt m i - 1) in-i (usedIn c) (K .prints) (λ g. not-live R C c m l K i o);
           }))
 
       withdraw-accepted : Right R C (withdrawOutcome c m v i) c m (withdraw v) l

@@ -81,7 +81,7 @@ pub accepted-domain : (v : Value) (c : ReferenceClock) → readReferenceClock v 
 unfolding domainOf
 accepted-domain v c e = simp e
 
-same-domain : (v w : Value) → SameClock v w → domainOf v ≡ domainOf w
+pub same-domain : (v w : Value) → SameClock v w → domainOf v ≡ domainOf w
 same-domain v w s =
     accepted-domain v (s .first) (s .is-first) ∙ clock-meant v (s .first) ∙ one-meant _ _ _ (s .one)
     ∙ sym (accepted-domain w (s .second) (s .is-second) ∙ clock-meant w (s .second))

@@ -23,10 +23,12 @@ use Rattle.room.specs.Put.{Put}
 use Rattle.room.proofs.Laws.{put-none, put-then, put-wider}
 use Rattle.report.proofs.Bounds.{Writable, ref-writable}
 use Rattle.slots.specs.Slot.{streamsAt, valuePlace, valueAt, takenSlots, streamSum}
+use Rattle.slots.proofs.Laws.{value-bytes}
 use Rattle.counts.specs.State.{usedIn, domainCount}
 use Rattle.counts.specs.declared.Census.{Census}
 use Rattle.roll.specs.declared.Roll.{Roll}
-use Rattle.rolltext.specs.Printing.{inTurn, countedText, clockLine, domainText, domainLine, totalsText, totalsLine, rollText, warningText}
+use Rattle.rolltext.specs.Printing.{inTurn, countedText, clockLine, domainText, domainLine, countsText, totalsText, totalsLine}
+use Rattle.rolltext.specs.Printing.{rollText, warningText}
 use Rattle.rolltext.specs.Private.Front.{totalsFront, totalsMost}
 
 -- `put_counted`
@@ -56,8 +58,7 @@ module _ (memory : Lent) (i n : ℕ) (en : n ≡ streamsAt (memory .now) i) wher
   module _ (f : n ≡ 0 → ⊥) (v : Lent) (is : PartAt memory (valuePlace (memory .now) i) v)
       (y : ReferenceClockRead) (ey : y ≡ readReferenceClock (v .now)) where
     there : v .now ≡ valueAt (memory .now) i
-    unfolding valueAt
-    there = is .bytes
+    there = value-bytes memory v i is
 
     taken : eqb (streamsAt (memory .now) i) 0 ≡ false
     taken = ne-eqb (streamsAt (memory .now) i) 0 (λ e. f (en ∙ e))
@@ -151,12 +152,18 @@ pub totals-put : (r : Roll) (m : List ℕ) (at next clocks counted : ℕ) (l l�
 unfolding totalsLine
 totals-put r m at next clocks counted l l′ ek es p = rw (← ek, ← es) p
 
+-- `put_counts`
+pub counts-put : (c : Census) (m : List ℕ) (used a b : ℕ) (l₀ l₁ l₂ : List ℕ) → used ≡ usedIn c
+    → Put (used * 1038) l₀ 0 (inTurn used (clockLine m)) a l₁ → Put (128 * 63) l₁ a (inTurn 128 (domainLine c)) b l₂
+    → Put 272754 l₀ 0 (countsText c m) b l₂
+unfolding countsText
+counts-put c m used a b l₀ l₁ l₂ e p q = put-wider (put-then (rw e at p) q) (omega arith)
+
 -- `put_roll`
-pub roll-put : (r : Roll) (m : List ℕ) (used a b c : ℕ) (l₀ l₁ l₂ l₃ : List ℕ) → used ≡ usedIn (r .census)
-    → Put (used * 1038) l₀ 0 (inTurn used (clockLine m)) a l₁ → Put (128 * 63) l₁ a (inTurn 128 (domainLine (r .census))) b l₂
-    → Put 187 l₂ b (totalsLine r m) c l₃ → Put 272941 l₀ 0 (rollText r m) c l₃
+pub roll-put : (r : Roll) (m : List ℕ) (a b : ℕ) (l₀ l₁ l₂ : List ℕ) → Put 272754 l₀ 0 (countsText (r .census) m) a l₁
+    → Put 187 l₁ a (totalsLine r m) b l₂ → Put 272941 l₀ 0 (rollText r m) b l₂
 unfolding rollText
-roll-put r m used a b c l₀ l₁ l₂ l₃ e p q s = put-wider (put-then (put-then (rw e at p) q) s) (omega arith)
+roll-put r m a b l₀ l₁ l₂ p q = put-then p q
 
 -- `put_warning`
 pub warning-none : (n : ℕ) → n ≡ 0 → (l : List ℕ) → length l < 2 ^ 64 → Put 67 l 0 (warningText n) 0 l
@@ -186,6 +193,7 @@ pub ruleset laws = (
   most-put,
   numbers-put,
   totals-put,
+  counts-put,
   roll-put,
   warning-none,
   warning-put,

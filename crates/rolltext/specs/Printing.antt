@@ -40,6 +40,10 @@ domainText d n = word "domain " ++ decimal d ++ word " " ++ decimal n ++ 10 ∷ 
 unfoldable pub domainLine : Census → ℕ → List ℕ
 domainLine c d = cond (eqb (domainCount c d) 0) [] (domainText d (domainCount c d))
 
+-- the lines of the clocks, and then those of the domain numbers
+unfoldable pub countsText : Census → List ℕ → List ℕ
+countsText c m = inTurn (usedIn c) (clockLine m) ++ inTurn 128 (domainLine c)
+
 -- the line of the totals
 unfoldable pub totalsText : ℕ → ℕ → ℕ → ℕ → ℕ → ℕ → List ℕ
 totalsText lines streams clocks counted refused uncounted =
@@ -53,7 +57,7 @@ totalsLine r m =
 
 -- all that is printed
 unfoldable pub rollText : Roll → List ℕ → List ℕ
-rollText r m = inTurn (usedIn (r .census)) (clockLine m) ++ inTurn 128 (domainLine (r .census)) ++ totalsLine r m
+rollText r m = countsText (r .census) m ++ totalsLine r m
 
 -- what is said where n streams could not be counted
 unfoldable pub warningText : ℕ → List ℕ

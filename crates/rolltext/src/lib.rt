@@ -8,7 +8,8 @@ ghost use Rattle.clock.specs.declared.ReferenceClockRead.the-variants.{Accepted
 ghost use Rattle.meaning.specs.ReferenceClock.{readReferenceClock};
 ghost use Rattle.meaning.specs.Text.{referenceClockText};
 ghost use Rattle.room.specs.Put.{Put};
-ghost use Rattle.rolltext.specs.Printing.{inTurn, countedText, clockLine, domainText, domainLine, totalsText, totalsLine, rollText, warningText};
+ghost use Rattle.rolltext.specs.Printing.{inTurn, countedText, clockLine, domainText, domainLine};
+ghost use Rattle.rolltext.specs.Printing.{countsText, totalsText, totalsLine, rollText, warningText};
 ghost use Rattle.rolltext.specs.Private.Front.{totalsFront, totalsMost};
 use clock::ReferenceClock;
 use clock::ReferenceClockRead;
@@ -160,14 +161,20 @@ fn put_totals(room: &mut [u8], at: usize, roll: Roll, memory: &[u8]) -> usize
     )
 }
 
-// All that is printed of a roll, from the room's front on: at most 1,038 bytes for each of 255 clocks, 63 for each of 128 domain numbers, and 187
-// for the totals.
+// The lines of a census, from the room's front on: at most 1,038 bytes for each of 255 clocks and 63 for each of 128 domain numbers.
+pub fn put_counts(room: &mut [u8], census: Census, memory: &[u8]) -> usize
+    ensures { λ r. ⌜ Put 272754 (now (room .entry)) 0 (countsText census (now (memory .entry))) r (now (room .exit)) ⌝ }
+{
+    let domains = put_clocks(room, memory, counts::used_slots(census));
+    put_domains(room, domains, census)
+}
+
+// All that is printed of a roll, from the room's front on: at most 187 bytes more for the totals.
 pub fn put_roll(room: &mut [u8], roll: Roll, memory: &[u8]) -> usize
     ensures { λ r. ⌜ Put 272941 (now (room .entry)) 0 (rollText roll (now (memory .entry))) r (now (room .exit)) ⌝ }
 {
     let census = roll.census;
-    let domains = put_clocks(room, memory, counts::used_slots(census));
-    let totals = put_domains(room, domains, census);
+    let totals = put_counts(room, census, memory);
     put_totals(room, totals, roll, memory)
 }
 

@@ -10,7 +10,7 @@ use lib.ListN.{length, take, length-take}
 use lib.Seq.{sets}
 use mir.Val.{Fits}
 use mir.Syntax.{w16, w32, w64}
-use borrow.Author.Tests.{eq-eqb, ne-eqb, eqb-true, eqb-false, ltb-true, ltb-false}
+use borrow.Author.Tests.{eq-eqb, ne-eqb, eqb-true}
 use Rattle.text.specs.Place.{place, bytesAt, Lent, PartAt}
 use Rattle.text.specs.declared.Place.{Place}
 use Rattle.text.proofs.Bools.{by-bool, clash}
@@ -29,9 +29,11 @@ use Rattle.quads.specs.Quad.{quad, numberAt}
 use Rattle.streams.specs.Streams.{bit}
 use Rattle.streams.specs.Sums.{firstFrom, first, sum}
 use Rattle.streams.proofs.Lists.{bit-most}
+use Rattle.streams.proofs.Sums.{below}
 use Rattle.slots.specs.Slot.{slotSize, mostValue, slotBytes, streamsAt, printAt, valuePlace, valueAt, isFree, freeSlot, takenSlots, streamSum}
 use Rattle.slots.specs.Find.{OfClock, SlotOf}
 use Rattle.slots.specs.Private.Start.{Start}
+use Rattle.slots.proofs.Slots.{one-record}
 
 -- where a slot begins
 pub starts-there : (i : ℕ) → i < 65536 → Start i (i * slotSize)
@@ -40,6 +42,10 @@ starts-there i h = record { is = refl; low = omega arith }
 pub streams-there : (m : List ℕ) (i at r : ℕ) → Start i at → r ≡ numberAt m at → r ≡ streamsAt m i
 unfolding streamsAt
 streams-there m i at r s e = e ∙ ap (numberAt m) (s .is)
+
+pub print-there : (m : List ℕ) (i at r : ℕ) → Start i at → r ≡ numberAt m (at + 4) → r ≡ printAt m i
+unfolding printAt
+print-there m i at r s e = e ∙ ap (λ (n : ℕ). numberAt m (n + 4)) (s .is)
 
 -- `value_at`
 pub value-there : (e r : Lent) (i at told len : ℕ) → Start i at → told ≡ numberAt (e .now) (at + 8) → len ≡ min told mostValue
@@ -51,23 +57,22 @@ value-there e r i at told len s t l p =
     let w : place (at + 12) len ≡ place (i * slotSize + 12) (min (numberAt (e .now) (i * slotSize + 8)) mostValue) = cc (q, s .is) in
     rw w at p
 
+pub value-bytes : (e w : Lent) (i : ℕ) → PartAt e (valuePlace (e .now) i) w → w .now ≡ valueAt (e .now) i
+unfolding valueAt
+value-bytes e w i p = p .bytes
+
 -- `is_of_clock`
-module _ (m : List ℕ) (k : RefMeaning) (i at : ℕ) (s : Start i at) where
-  pub not-print : (n p : ℕ) → n ≡ numberAt m (at + 4) → p ≡ fingerprint hostPrint k → (n ≡ p → ⊥) → Decides false (OfClock m k i)
-  unfolding printAt
-  not-print n p en ep x =
-      record { right = λ e. clash (cc (e)); found = λ o. absurd (x (en ∙ ap (λ (y : ℕ). numberAt m (y + 4)) (s .is) ∙ o .print ∙ sym ep)) }
+module _ (m : List ℕ) (k : RefMeaning) (i : ℕ) where
+  pub not-print : (n p : ℕ) → n ≡ printAt m i → p ≡ fingerprint hostPrint k → (n ≡ p → ⊥) → Decides false (OfClock m k i)
+  not-print n p en ep x = record { right = λ e. clash (cc (e)); found = λ o. absurd (x (en ∙ o .print ∙ sym ep)) }
 
-  pub not-taken : (n : ℕ) → n ≡ numberAt m at → n ≡ 0 → Decides false (OfClock m k i)
-  unfolding streamsAt
-  not-taken n en z =
-      record { right = λ e. clash (cc (e)); found = λ o. absurd (o .taken (ap (numberAt m) (sym (s .is)) ∙ sym en ∙ z)) }
+  pub not-taken : (n : ℕ) → n ≡ streamsAt m i → n ≡ 0 → Decides false (OfClock m k i)
+  not-taken n en z = record { right = λ e. clash (cc (e)); found = λ o. absurd (o .taken (sym en ∙ z)) }
 
-module _ (e : Lent) (k : RefMeaning) (i at : ℕ) (s : Start i at) (w : Lent) (ew : PartAt e (valuePlace (e .now) i) w) (x : ReferenceClockRead)
+module _ (e : Lent) (k : RefMeaning) (i : ℕ) (w : Lent) (ew : PartAt e (valuePlace (e .now) i) w) (x : ReferenceClockRead)
     (ex : x ≡ readReferenceClock (w .now)) where
   there : w .now ≡ valueAt (e .now) i
-  unfolding valueAt
-  there = ew .bytes
+  there = value-bytes e w i ew
 
   read-there : readReferenceClock (valueAt (e .now) i) ≡ x
   read-there = ap readReferenceClock (sym there) ∙ sym ex
@@ -75,35 +80,27 @@ module _ (e : Lent) (k : RefMeaning) (i at : ℕ) (s : Start i at) (w : Lent) (e
   pub not-read : (q : Refusal) → x ≡ Refused q → Decides false (OfClock (e .now) k i)
   not-read q f = record { right = λ y. clash (cc (y)); found = λ o. clash (cc (read-there, f, o .reads)) }
 
-  pub is-asked : (n p : ℕ) → n ≡ numberAt (e .now) (at + 4) → p ≡ fingerprint hostPrint k → n ≡ p
-      → (t : ℕ) → t ≡ numberAt (e .now) at → (t ≡ 0 → ⊥)
+  pub is-asked : (n p : ℕ) → n ≡ printAt (e .now) i → p ≡ fingerprint hostPrint k → n ≡ p → (t : ℕ) → t ≡ streamsAt (e .now) i → (t ≡ 0 → ⊥)
       → (d : ReferenceClock) → x ≡ Accepted d → (r : Bool) → Decides r (OneClock hostsAlike k (refMeaning (w .now) d)) → Decides r (OfClock (e .now) k i)
-  unfolding printAt streamsAt
   is-asked n p en ep np t et nt d f r a =
       record {
         right = λ y.
             record {
-              taken = λ z. nt (et ∙ ap (numberAt (e .now)) (s .is) ∙ z);
-              print = ap (λ (y : ℕ). numberAt (e .now) (y + 4)) (sym (s .is)) ∙ sym en ∙ np ∙ ep;
+              taken = λ z. nt (et ∙ z);
+              print = sym en ∙ np ∙ ep;
               clock = d;
               reads = read-there ∙ f;
               one = rw there at (a .right y);
             };
         found = λ o.
-            let c : o .clock ≡ d = same-record (o .clock) d (sym (o .reads) ∙ read-there ∙ f) in
+            let c : o .clock ≡ d = one-record (o .clock) d (sym (o .reads) ∙ read-there ∙ f) in
             a .found (rw (there, ← c) (o .one));
       }
-    where
-      same-record : (c d : ReferenceClock) → Accepted c ≡ Accepted d → c ≡ d
-      same-record c d e = cc (e)
 
 -- `find`: no slot before i is that of the clock
 pub record NoneBefore (m : List ℕ) (k : RefMeaning) (n i : ℕ) : Type 0 where
   pub most : i ≤ n
   pub none-before : (j : ℕ) → j < i → OfClock m k j → ⊥
-
-below : (j i : ℕ) → j < i + 1 → eqb j i ≡ false → j < i
-below j i g t = by-bool (ltb j i) (λ q. ltb-true j i q) (λ q. absurd (eqb-false j i t (let r = ltb-false j i q in omega arith)))
 
 module _ (m : List ℕ) (k : RefMeaning) (n : ℕ) where
   pub find-start : NoneBefore m k n 0
@@ -158,9 +155,12 @@ module _ (m : List ℕ) (n : ℕ) where
             left = k .left ∙ one-more h ∙ simp (ne-eqb (streamsAt m i) 0 (λ e. f (q ∙ e))) (rw add-one refl);
           }
 
--- `set_streams`, `set_slot`
+-- `set_streams`, `set_print`, `set_slot`
 pub streams-set : (m m′ : List ℕ) (i at n r : ℕ) → Start i at → Put 4 m at (quad n) r m′ → m′ ≡ sets m (i * slotSize) (quad n)
 streams-set m m′ i at n r s p = p .bytes ∙ ap (λ (k : ℕ). sets m k (quad n)) (s .is)
+
+pub print-set : (m m′ : List ℕ) (i at n r : ℕ) → Start i at → Put 4 m (at + 4) (quad n) r m′ → m′ ≡ sets m (i * slotSize + 4) (quad n)
+print-set m m′ i at n r s p = p .bytes ∙ ap (λ (k : ℕ). sets m (k + 4) (quad n)) (s .is)
 
 pub slot-put : (n p : ℕ) (v : List ℕ) {at second third fourth last : ℕ} {l x y z w : List ℕ} → length v ≤ mostValue
     → Put 4 l at (quad n) second x → Put 4 x second (quad p) third y → Put 4 y third (quad (length v)) fourth z → Put (length v) z fourth v last w
@@ -245,6 +245,7 @@ module _ (m : List ℕ) (used n i : ℕ) (k : Summed m used n i) where
 pub ruleset laws = (
   starts-there,
   streams-there,
+  print-there,
   value-there,
   not-print,
   not-taken,
@@ -259,6 +260,7 @@ pub ruleset laws = (
   free-hit,
   free-turn,
   streams-set,
+  print-set,
   slot-put,
   part-short,
   slot-set,

@@ -21,6 +21,10 @@ use Rattle.streams.proofs.Sums.{First, first-tells}
 use Rattle.slots.specs.Slot.{streamsAt, printAt, valueAt, isFree}
 use Rattle.slots.specs.Find.{OfClock, SlotOf, SlotFor, SlotThere, SlotSettled}
 
+-- one value is read as one record
+pub one-record : (c d : ReferenceClock) → Accepted c ≡ Accepted d → c ≡ d
+one-record c d e = cc (e)
+
 pub slot-settled : SlotSettled
 slot-settled m k n i j a b =
     by-bool (ltb i j)
@@ -77,9 +81,6 @@ slot-there m k n =
     )
 
 -- and so of every value
-one-record : (c d : ReferenceClock) → Accepted c ≡ Accepted d → c ≡ d
-one-record c d e = cc (e)
-
 pub slot-for : (m v : List ℕ) (n : ℕ) → (i : ℕ) × SlotFor m v n i
 slot-for m v n = go (readReferenceClock v) refl
   where

@@ -3,7 +3,7 @@
 // stored.
 ghost use mathlib.Core.Path.{_≡_};
 ghost use mathlib.Core.Bool.{not};
-ghost use Prim.Native.Nat.{_*_, _≤_};
+ghost use Prim.Native.Nat.{_+_, _*_, _≤_};
 ghost use lib.ListN.{length, take};
 ghost use lib.Seq.{sets};
 ghost use Rattle.text.specs.Place.{PartAt};
@@ -13,7 +13,7 @@ ghost use Rattle.equal.specs.Decides.{Decides};
 ghost use Rattle.equal.specs.Fingerprint.{hostPrint, fingerprint as printOf};
 ghost use Rattle.quads.specs.Quad.{quad};
 ghost use Rattle.streams.specs.Streams.{bit};
-ghost use Rattle.slots.specs.Slot.{slotSize, mostValue, slotBytes, streamsAt, valuePlace, isFree, freeSlot, takenSlots, streamSum};
+ghost use Rattle.slots.specs.Slot.{slotSize, mostValue, slotBytes, streamsAt, printAt, valuePlace, isFree, freeSlot, takenSlots, streamSum};
 ghost use Rattle.slots.specs.Find.{OfClock, SlotOf};
 ghost use Rattle.slots.specs.Private.Start.{Start};
 use clock::ReferenceClock;
@@ -40,6 +40,14 @@ pub fn streams_at(memory: &[u8], i: u16) -> u32
     quads::number_at(memory, start(i))
 }
 
+// The fingerprint of a slot.
+pub fn print_at(memory: &[u8], i: u16) -> u32
+    ensures { λ r. ⌜ r ≡ printAt (now (memory .entry)) i ⌝ }
+{
+    let at = start(i);
+    quads::number_at(memory, at + 4)
+}
+
 // The value of a slot.
 pub fn value_at(memory: &[u8], i: u16) -> &[u8]
     ensures { λ r. ⌜ PartAt (memory .entry) (valuePlace (now (memory .entry)) i) r ⌝ }
@@ -61,11 +69,10 @@ fn is_of_clock(memory: &[u8], i: u16, v: &[u8], clock: ReferenceClock, print: u3
     requires { ⌜ print ≡ printOf hostPrint (refMeaning (now v) clock) ⌝ }
     ensures { λ r. ⌜ Decides r (OfClock (now (memory .entry)) (refMeaning (now (v .entry)) clock) i) ⌝ }
 {
-    let at = start(i);
-    if quads::number_at(memory, at + 4) != print {
+    if print_at(memory, i) != print {
         return false;
     }
-    if quads::number_at(memory, at) == 0 {
+    if streams_at(memory, i) == 0 {
         return false;
     }
     let w = value_at(memory, i);
@@ -110,6 +117,14 @@ pub fn set_streams(memory: &mut [u8], i: u16, n: u32)
     ensures { λ _. ⌜ now (memory .exit) ≡ sets (now (memory .entry)) (i * slotSize) (quad n) ⌝ }
 {
     quads::put_number(memory, start(i), n);
+}
+
+// Or another fingerprint.
+pub fn set_print(memory: &mut [u8], i: u16, print: u32)
+    ensures { λ _. ⌜ now (memory .exit) ≡ sets (now (memory .entry)) (i * slotSize + 4) (quad print) ⌝ }
+{
+    let at = start(i);
+    quads::put_number(memory, at + 4, print);
 }
 
 // The bytes of a slot are put from a place on.

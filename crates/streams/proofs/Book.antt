@@ -12,7 +12,8 @@ use Rattle.text.proofs.Bools.{by-bool, clash, both, and-left, and-right}
 use Rattle.streams.specs.Rule.{Value, Rule, Lawful, hasDomain, is}
 use Rattle.streams.specs.Streams.{Streams, bit, numberOf, without, isRefused, ofClock, refusedIn, inDomain, clocksIn, like, moved}
 use Rattle.streams.specs.Sums.{sum, first}
-use Rattle.streams.specs.Private.Book.{Book, isFree, names, tallied, clockSum, live, Respects, Stands}
+use Rattle.streams.specs.Book.{Book, isFree, tallied, Respects, StandsTo, Stands}
+use Rattle.streams.specs.Private.Entries.{names, clockSum, live}
 use Rattle.streams.proofs.Lists.{bit-most, number-within, number-split, number-without, number-moved, length-without, length-map}
 use Rattle.streams.proofs.Lists.{second, same-alike, same-turned}
 use Rattle.streams.proofs.Clocks.{live-clocks}
@@ -47,7 +48,7 @@ module _ (b b′ : Book) (u : b′ .used ≡ b .used) (i : ℕ) (h : i < b .used
       omega arith
 
 module _ (R : Rule) (G : Lawful R) where
-  respects-same : (x : Value) → Respects R (R .same x)
+  pub respects-same : (x : Value) → Respects R (R .same x)
   respects-same x v w e = same-turned R G x v ∙ same-alike R G v w e x ∙ same-turned R G w x
 
   respects-domain : (d : ℕ) → Respects R (hasDomain R d)
@@ -58,6 +59,17 @@ module _ (R : Rule) (G : Lawful R) where
 
   domain-accepted : (d : ℕ) (v : Value) → hasDomain R d v ≡ true → R .accepted v ≡ true
   domain-accepted d v e = by-bool (R .accepted v) (λ t. t) (λ f. clash (cc (ap (is d) (G .no-domain v f), e)))
+
+  -- the clock counts and the refused count are together the streams
+  pub clock-sum : (n most : ℕ) (b : Book) (l : Streams) → StandsTo n R most b l → clockSum b + b .refused ≡ length l
+  clock-sum n most b l S =
+      let t : tallied b (R .accepted) ≡ numberOf (R .accepted) l = S .tallies (R .accepted) respects-accepted (λ v e. e) in
+      let c : tallied b (R .accepted) ≡ clockSum b =
+      sum-same (b .used) (b .streams) (λ j. cond (R .accepted (b .value j)) (b .streams j) 0) (λ j h.
+      by-bool (isFree b j)
+      (λ f. let z = eqb-true (b .streams j) 0 f in by-bool (R .accepted (b .value j)) (λ a. simp a) (λ a. simp (a, z)))
+      (λ f. simp (S .accepted j h f))) in
+      omega (arith, S .refused, number-split (R .accepted) l)
 
   module _ (most : ℕ) (b : Book) (l : Streams) (S : Stands R most b l) where
     -- an entry names v's clock
@@ -92,17 +104,6 @@ module _ (R : Rule) (G : Lawful R) where
         by-bool (R .same v (b .value j))
         (λ t. simp t (by-bool (isFree b j) (λ f. eqb-true (b .streams j) 0 f) (λ f. clash (cc (simp (f, t) at (e j h))))))
         (λ t. simp t))
-
-    -- the clock counts and the refused count are together the streams
-    pub clock-sum : clockSum b + b .refused ≡ length l
-    clock-sum =
-        let t : tallied b (R .accepted) ≡ numberOf (R .accepted) l = S .tallies (R .accepted) respects-accepted (λ v e. e) in
-        let c : tallied b (R .accepted) ≡ clockSum b =
-        sum-same (b .used) (b .streams) (λ j. cond (R .accepted (b .value j)) (b .streams j) 0) (λ j h.
-        by-bool (isFree b j)
-        (λ f. let z = eqb-true (b .streams j) 0 f in by-bool (R .accepted (b .value j)) (λ a. simp a) (λ a. simp (a, z)))
-        (λ f. simp (S .accepted j h f))) in
-        omega (arith, S .refused, number-split (R .accepted) l)
 
     -- one entry is altered
     module _ (b′ : Book) (u : b′ .used ≡ b .used) (i : ℕ) (h : i < b .used) (w : Value) (n : ℕ) (A : Altered b b′ i w n) where

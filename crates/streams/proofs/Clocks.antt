@@ -11,7 +11,8 @@ use Rattle.text.proofs.Bools.{by-bool, clash}
 use Rattle.streams.specs.Rule.{Value, Rule, Lawful}
 use Rattle.streams.specs.Streams.{Streams, bit, numberOf, ofClock, clocksIn}
 use Rattle.streams.specs.Sums.{sum}
-use Rattle.streams.specs.Private.Book.{Book, isFree, tallied, live}
+use Rattle.streams.specs.Book.{Book, isFree, tallied}
+use Rattle.streams.specs.Private.Entries.{live}
 use Rattle.streams.proofs.Lists.{clock-alike, second, same-turned, same-alike}
 use Rattle.streams.proofs.Sums.{over-zero, sum-same, sum-change, sum-zero, sum-term}
 

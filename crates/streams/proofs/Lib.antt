@@ -4,4 +4,5 @@ pub mod Lists
 pub mod Sums
 pub mod Clocks
 pub mod Book
+pub mod Widened
 pub mod Total

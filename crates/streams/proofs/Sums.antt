@@ -8,6 +8,10 @@ use borrow.Author.Tests.{eq-eqb, ne-eqb, eqb-true, eqb-false, lt-ltb, le-ltb, lt
 use Rattle.text.proofs.Bools.{by-bool, clash}
 use Rattle.streams.specs.Sums.{sum, firstFrom, first}
 
+-- a number below i + 1 that is not i
+pub below : (j i : ℕ) → j < i + 1 → eqb j i ≡ false → j < i
+below j i h t = by-bool (ltb j i) (λ q. ltb-true j i q) (λ q. absurd (eqb-false j i t (let r = ltb-false j i q in omega arith)))
+
 -- a number that is not 0
 pub over-zero : (n : ℕ) → eqb n 0 ≡ false → 0 < n
 over-zero n e = by-bool (ltb 0 n) (λ t. ltb-true 0 n t) (λ t. absurd (eqb-false n 0 e (let h = ltb-false 0 n t in omega arith)))

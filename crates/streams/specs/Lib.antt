@@ -4,6 +4,7 @@ pub mod Streams
 pub mod Calls
 pub mod Limits
 pub mod Sums
+pub mod Book
 pub mod Total
 pub mod Examples
 pub mod Private

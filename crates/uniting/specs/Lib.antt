@@ -1,0 +1,3 @@
+-- What uniting answers and leaves.
+pub mod Uniting
+pub mod Private
