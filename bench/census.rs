@@ -1,13 +1,14 @@
-//! The counting of our program `censuscalls` done with the Rust module and a `HashMap` whose keys are the texts that the module writes: standard
-//! input to standard output, of the frames those that count a value, a line for each.
+//! The counting of our program `censuscalls` done with the Rust module and a `HashMap` by clock: standard input to standard output, of the frames
+//! those that count a value, a line for each.
 
-use compare::census::{clock, frames::last_line, CLOCKS, NO_ENTRY};
+use compare::census::{frames::last_line, CLOCKS, NO_ENTRY};
+use compare::clocks::{clock, Clock};
 use std::collections::HashMap;
 use std::io::{self, BufRead, BufReader, BufWriter, Read, Write};
 
 #[derive(Default)]
 struct Census {
-    streams: HashMap<String, u64>,
+    streams: HashMap<Clock, u64>,
     refused: u64,
 }
 
@@ -48,11 +49,10 @@ impl Census {
             self.refused += 1;
             return true;
         };
-        let text = clock.to_string();
-        if let Some(streams) = self.streams.get_mut(&text) {
+        if let Some(streams) = self.streams.get_mut(&clock) {
             *streams += 1;
         } else if self.streams.len() < CLOCKS {
-            self.streams.insert(text, 1);
+            self.streams.insert(clock, 1);
         } else {
             return false;
         }

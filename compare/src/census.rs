@@ -1,7 +1,7 @@
 //! The census of streams as a plain list of them, over the module's own records: what `censuscalls` and `census` owe is taken from here.
 
 use crate::clock_signalling::{Ptp, PtpDomain, PtpServer, ReferenceClock};
-use crate::table::LONGEST;
+use crate::clocks::{clock, Clock};
 
 pub mod cut;
 pub mod frames;
@@ -22,16 +22,11 @@ const NO_MEMORY: u8 = 24;
 pub const NO_ENTRY: u8 = 25;
 const NO_STREAMS: u8 = 27;
 
-/// The clock that a value names, or none where it is refused. Two values name the same clock where these are equal.
-pub fn clock(value: &[u8]) -> Option<ReferenceClock> {
-    std::str::from_utf8(value).ok().filter(|text| text.len() <= LONGEST)?.parse().ok()
-}
-
 /// Refusal 26 is not here: no run comes to 4,294,967,295 streams.
 pub struct Census {
     memory: u32,
-    /// A stream is its clock, or none where its value was refused.
-    streams: Vec<Option<ReferenceClock>>,
+    /// A stream is its clock, by the record of the value that the clock was first counted with, or none where its value was refused.
+    streams: Vec<Option<Clock>>,
 }
 
 impl Census {
@@ -51,10 +46,14 @@ impl Census {
     /// Counts the value; a refused call of these is its number.
     pub fn count(&mut self, value: &[u8]) -> Result<(), u8> {
         self.has_memory()?;
-        let stream = clock(value);
-        if stream.is_some() && !self.streams.contains(&stream) && self.clocks().count() == CLOCKS {
-            return Err(NO_ENTRY);
-        }
+        let stream = match clock(value) {
+            None => None,
+            Some(clock) => match self.known(&clock) {
+                None if self.clocks().count() == CLOCKS => return Err(NO_ENTRY),
+                None => Some(clock),
+                known => known,
+            },
+        };
         self.streams.push(stream);
         Ok(())
     }
@@ -67,15 +66,17 @@ impl Census {
         Ok(())
     }
 
+    /// The clock as it was first counted, or none where it has no streams.
+    pub fn known(&self, clock: &Clock) -> Option<Clock> {
+        self.streams.iter().flatten().find(|other| *other == clock).cloned()
+    }
+
     /// All streams of the first value's clock are then the second's.
     pub fn join(&mut self, from: &[u8], into: &[u8]) -> Result<(), u8> {
         self.has_memory()?;
-        let (from, into) = (clock(from), clock(into));
-        let has_streams = |clock: &Option<ReferenceClock>| clock.is_some() && self.streams.contains(clock);
-        if !has_streams(&from) || !has_streams(&into) {
-            return Err(NO_STREAMS);
-        }
-        for stream in self.streams.iter_mut().filter(|stream| **stream == from) {
+        let known = |value| clock(value).and_then(|clock| self.known(&clock)).ok_or(NO_STREAMS);
+        let (from, into) = (known(from)?, known(into)?);
+        for stream in self.streams.iter_mut().flatten().filter(|stream| **stream == from) {
             stream.clone_from(&into);
         }
         Ok(())
@@ -87,7 +88,7 @@ impl Census {
         Ok(clock(value).map_or(0, |clock| self.count_of(&clock)))
     }
 
-    pub fn count_of(&self, clock: &ReferenceClock) -> usize {
+    pub fn count_of(&self, clock: &Clock) -> usize {
         self.streams.iter().flatten().filter(|other| *other == clock).count()
     }
 
@@ -97,7 +98,7 @@ impl Census {
     }
 
     /// The clocks that have streams, in the order of their first ones.
-    pub fn clocks(&self) -> impl Iterator<Item = &ReferenceClock> {
+    pub fn clocks(&self) -> impl Iterator<Item = &Clock> {
         let is_first = |at: usize| !self.streams[..at].contains(&self.streams[at]);
         (0..self.streams.len()).filter(move |at| self.streams[*at].is_some() && is_first(*at)).flat_map(|at| &self.streams[at])
     }
@@ -109,8 +110,8 @@ impl Census {
     }
 }
 
-fn domain_of(clock: &ReferenceClock) -> Option<u8> {
-    match clock {
+pub fn domain_of(clock: &Clock) -> Option<u8> {
+    match &clock.record {
         ReferenceClock::Ptp(Ptp { server: PtpServer::GmidDomain { domain: Some(PtpDomain::DomainNumber(number)), .. }, .. }) => Some(*number),
         _ => None,
     }

@@ -138,3 +138,10 @@ impl Check {
 pub fn list<'a, K: std::fmt::Display + 'a>(counts: impl Iterator<Item = (&'a K, &'a u64)>) -> String {
     counts.map(|(name, count)| format!("{name} {count}")).collect::<Vec<_>>().join(", ")
 }
+
+/// Prints the first line in which two outputs differ.
+pub fn say_first_difference(at: &str, said: &str, owed: &str) {
+    let same = said.lines().zip(owed.lines()).take_while(|(one, other)| one == other).count();
+    let line = |text: &str| text.lines().nth(same).map_or("nothing".to_string(), |line| line.escape_debug().to_string());
+    println!("DIFFERENCE at {at}, line {} of what is printed\n  {}\n  and by the Rust\n  {}", same + 1, line(said), line(owed));
+}

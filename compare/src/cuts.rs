@@ -1,42 +1,56 @@
-//! Frames that end early: a few frames cut at every place, so that the program prints `cut` and the sums of what came before.
+//! Frames that end early, or begin with another letter: a few frames cut at every place, so that the program prints `cut` and the sums of what came
+//! before.
 
-use crate::pipe::{ask_once, sums};
+use crate::answers::Frame;
+use crate::pipe::prints;
+use crate::questions::Question;
 use crate::record::Attribute::{Mediaclk, TsRefclk};
-use crate::table;
+use crate::side::Side;
 use crate::values::Value;
 
+/// Bytes that no frame begins with, some of them near one that does.
+const LETTERS: [u8; 8] = *b"RMSG\0htl";
+
 pub fn compare(program: &[String]) -> Result<bool, String> {
-    let values = [Value::new(TsRefclk, "gps"), Value::new(Mediaclk, ""), Value::new(Mediaclk, "direct=7")];
-    let input: Vec<u8> = values.iter().flat_map(Value::frame).collect();
+    let frames = frames();
+    let input: Vec<u8> = frames.iter().flat_map(Frame::bytes).collect();
     let mut equal = true;
     for end in 0..=input.len() {
-        let expected = lines(&values, end);
-        let said = String::from_utf8_lossy(&ask_once(program, &input[..end])?).into_owned();
-        if said != expected {
-            println!("DIFFERENCE at the first {end} bytes of three frames\n  {said:?}\n  and not {expected:?}");
-            equal = false;
-        }
+        equal &= prints(program, &input[..end], &owed(&frames, end))?;
     }
-    println!("cut: three frames ended at each of {} places", input.len() + 1);
+    for letter in LETTERS {
+        let mut others = input.clone();
+        others.push(letter);
+        // a whole frame, but for the letter
+        others.extend(&input[1..]);
+        equal &= prints(program, &others, &owed(&frames, input.len() + 1))?;
+    }
+    println!("cut: {} frames ended at each of {} places, or by one of {} letters", frames.len(), input.len() + 1, LETTERS.len());
     Ok(equal)
 }
 
-/// What is owed for the first bytes of the values' frames.
-fn lines(values: &[Value], mut bytes: usize) -> String {
-    let (mut accepted, mut refused) = (0, 0);
+fn frames() -> Vec<Frame> {
+    let values = [Value::new(TsRefclk, "gps"), Value::new(Mediaclk, ""), Value::new(Mediaclk, "direct=7")];
+    let questions = [["ntp=h", "ntp=H"], ["gps", ""]].map(|values| Question::both(values.map(Vec::from)));
+    values.into_iter().map(Frame::Read).chain(questions.into_iter().flatten().map(Frame::Asks)).collect()
+}
+
+/// What is owed for so many bytes, of which those behind the frames are no whole one.
+fn owed(frames: &[Frame], mut bytes: usize) -> String {
+    let mut said = Side::default();
     let mut text = String::new();
-    for value in values {
-        let len = value.frame().len();
+    for frame in frames {
+        let len = frame.bytes().len();
         if bytes < len {
             break;
         }
         bytes -= len;
-        let line = table::answer(value.attribute, &value.bytes).to_string();
-        *(if line.starts_with("ok ") { &mut accepted } else { &mut refused }) += 1;
+        let line = frame.line();
+        said.take(&line);
         text += &format!("{line}\n");
     }
     if bytes > 0 {
         text += "cut\n";
     }
-    text + &sums(accepted, refused) + "\n"
+    text + &said.frames_and_asked() + "\n"
 }

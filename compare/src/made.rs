@@ -8,6 +8,7 @@
 //! another with the same bytes. So each function is called with texts that differ from each other and mostly hold no such sign.
 
 use crate::calls::{call, rows, Arguments, TRIES};
+use crate::framing;
 use crate::notation::hex;
 use crate::pipe;
 use crate::random::Random;
@@ -40,9 +41,10 @@ fn line(a: &Arguments) -> String {
     call(a).map_or("no 10".to_string(), |made| format!("ok {}", made.text()))
 }
 
-/// What `made` prints for a frame.
-pub fn answer(row: u8, bytes: &[u8]) -> String {
-    line(&Arguments::of(row, bytes))
+/// Answers the frames of standard input, as `made` does.
+pub fn stand_in() -> io::Result<()> {
+    let read = |input: &mut pipe::Input| Some(Arguments::of(u8::from_be_bytes(framing::bytes(input)?), &framing::value(input)?));
+    pipe::stand_in(read, line, Side::frames)
 }
 
 /// The arguments at so many places, each counted round its list: texts, ids, the three numbers, versions, the flag and the cases.
@@ -97,18 +99,13 @@ fn calls() -> impl Iterator<Item = Arguments> + Clone + Send {
     calls.into_iter()
 }
 
-/// Whether a line says that a record was made.
-fn is_made(line: &str) -> bool {
-    line.starts_with("ok ")
-}
-
 /// Runs the program `made` on the list and compares each line with the module's.
 pub fn compare(program: &[String]) -> Result<bool, String> {
     let mut differences = 0;
     let mut module = Side::default();
-    let made = pipe::ask(program, calls(), Arguments::frame, |a, said| {
+    let made = pipe::ask(program, calls(), Arguments::frame, Side::frames, |a, said| {
         let owed = line(a);
-        module.count(is_made(&owed));
+        module.take(&owed);
         if said != owed {
             differences += 1;
             println!("DIFFERENCE at row {} of docs/ITEMS.md, frame {}\n  {said}\n  the module gives\n  {owed}", a.row, hex(&a.frame()));
@@ -127,8 +124,8 @@ pub fn write(folder: &Path) -> io::Result<()> {
     let mut frames: Vec<u8> = calls.iter().flat_map(Arguments::frame).collect();
     frames.extend(calls[0].frame().split_last().map_or(&[][..], |(_, rest)| rest));
     let lines: Vec<String> = calls.iter().map(line).collect();
-    let accepted = lines.iter().filter(|line| is_made(line)).count() as u64;
-    let sums = pipe::sums(accepted, lines.len() as u64 - accepted);
+    let mut said = Side::default();
+    lines.iter().for_each(|line| said.take(line));
     std::fs::write(folder.join("stdin"), frames)?;
-    std::fs::write(folder.join("stdout"), lines.join("\n") + "\ncut\n" + &sums + "\n")
+    std::fs::write(folder.join("stdout"), lines.join("\n") + "\ncut\n" + &said.frames() + "\n")
 }

@@ -2,26 +2,31 @@
 
 use crate::notation::hex;
 use crate::side::Side;
-use std::io::{BufRead, BufReader, BufWriter, Read, Write};
+use std::io::{stdin, stdout, BufRead, BufReader, BufWriter, Read, StdinLock, Write};
 use std::process::{Child, ChildStdout, Command, Stdio};
 use std::thread;
 
-/// Runs the program on the frames of the items and hands on each item with the line that answers it. The last line must have the right sums.
-pub fn ask<T, I>(command: &[String], items: I, frame: impl Fn(&T) -> Vec<u8> + Sync, mut each: impl FnMut(&T, &str)) -> Result<Side, String>
+/// Runs the program on the frames of the items and hands on each item with the line that accepts or refuses it. The last line must be `sums`.
+pub fn ask<T, I>(
+    command: &[String],
+    items: I,
+    frame: impl Fn(&T) -> Vec<u8> + Sync,
+    sums: impl Fn(&Side) -> String,
+    mut each: impl FnMut(&T, &str),
+) -> Result<Side, String>
 where
     I: Iterator<Item = T> + Clone + Send,
 {
     let mut said = Side::default();
     let last = ask_lines(command, items, frame, |item, line| {
-        match line.get(..3) {
-            Some("ok ") => said.count(true),
-            Some("no ") => said.count(false),
-            _ => return false,
+        said.take(line);
+        if said.asked > 0 {
+            return false;
         }
         each(item, line);
         true
     })?;
-    ends_with(&last, &sums(said.accepted, said.refused))?;
+    ends_with(&last, &sums(&said))?;
     Ok(said)
 }
 
@@ -106,11 +111,6 @@ pub fn ask_once(command: &[String], input: &[u8]) -> Result<Vec<u8>, String> {
     output.map(|output| output.stdout).map_err(|error| error.to_string())
 }
 
-/// The last line that a program prints.
-pub fn sums(accepted: u64, refused: u64) -> String {
-    format!("frames {} ok {accepted} no {refused}", accepted + refused)
-}
-
 struct Output<R>(BufReader<R>);
 
 impl<R: Read> Output<R> {
@@ -128,28 +128,36 @@ impl<R: Read> Output<R> {
     }
 }
 
-/// Reads the frames of standard input and prints what `answer` makes of each, as our programs do: it stands for them where the comparison
-/// itself is tried.
-pub fn stand_in(answer: impl Fn(u8, &[u8]) -> String) -> std::io::Result<()> {
-    let mut input = BufReader::with_capacity(1 << 16, std::io::stdin().lock());
-    let mut output = BufWriter::with_capacity(1 << 16, std::io::stdout().lock());
-    let (mut accepted, mut refused) = (0, 0);
-    let mut letter = [0];
-    while input.read(&mut letter)? == 1 {
-        let mut len = [0; 2];
-        let mut value = Vec::new();
-        let whole = input.read_exact(&mut len).is_ok() && {
-            value.resize(usize::from(u16::from_be_bytes(len)), 0);
-            input.read_exact(&mut value).is_ok()
-        };
-        if !whole {
+/// Whether all that the program prints on the input is what is owed.
+pub fn prints(program: &[String], input: &[u8], owed: &str) -> Result<bool, String> {
+    let said = ask_once(program, input)?;
+    if said != owed.as_bytes() {
+        println!("DIFFERENCE at the input \"{}\"\n  \"{}\"\n  and not {owed:?}", input.escape_ascii(), said.escape_ascii());
+    }
+    Ok(said == owed.as_bytes())
+}
+
+pub type Input = BufReader<StdinLock<'static>>;
+
+/// Reads the frames of standard input and prints what `answer` makes of each, and `last` of all lines, as our programs do: it stands for them where
+/// the comparison itself is tried. Behind a frame that is no whole one nothing is read.
+pub fn stand_in<T>(
+    read: impl Fn(&mut Input) -> Option<T>,
+    mut answer: impl FnMut(&T) -> String,
+    last: impl Fn(&Side) -> String,
+) -> std::io::Result<()> {
+    let mut input = BufReader::with_capacity(1 << 16, stdin().lock());
+    let mut output = BufWriter::with_capacity(1 << 16, stdout().lock());
+    let mut said = Side::default();
+    while !input.fill_buf()?.is_empty() {
+        let Some(item) = read(&mut input) else {
             writeln!(output, "cut")?;
             break;
-        }
-        let line = answer(letter[0], &value);
-        *(if line.starts_with("ok ") { &mut accepted } else { &mut refused }) += 1;
+        };
+        let line = answer(&item);
+        said.take(&line);
         writeln!(output, "{line}")?;
     }
-    writeln!(output, "{}", sums(accepted, refused))?;
+    writeln!(output, "{}", last(&said))?;
     output.flush()
 }

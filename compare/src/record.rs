@@ -14,6 +14,10 @@ impl Attribute {
             Self::Mediaclk => b'm',
         }
     }
+
+    pub fn of_letter(letter: u8) -> Option<Self> {
+        [Self::TsRefclk, Self::Mediaclk].into_iter().find(|attribute| attribute.letter() == letter)
+    }
 }
 
 #[derive(Debug, Clone, Copy, PartialEq, Eq)]

@@ -1,11 +1,12 @@
-//! The stored list: a few thousand frames with the answers owed, as files that a gate can replay with no Rust at hand.
+//! The stored list: a few thousand frames, values and then questions, with the answers owed, as files that a gate can replay with no Rust at hand.
 
 use crate::lists;
 use crate::module::{self, Made};
-use crate::pipe::sums;
+use crate::questions::listed;
 use crate::random::Random;
 use crate::record::{Answer, Attribute, Refusal};
 use crate::seeded;
+use crate::side::Side;
 use crate::table::{self, LONGEST};
 use crate::values::Value;
 use std::collections::BTreeMap;
@@ -22,17 +23,21 @@ const LONG: usize = 60;
 pub fn write(folder: &Path) -> io::Result<()> {
     let mut input = Vec::new();
     let mut output = String::new();
-    let (mut accepted, mut refused) = (0, 0);
+    let mut said = Side::default();
+    let mut put = |frame: Vec<u8>, line: String| {
+        input.extend(frame);
+        said.take(&line);
+        output += &format!("{line}\n");
+    };
     for value in values() {
         let answer = answer(&value).map_err(io::Error::other)?;
-        *(if matches!(answer, Answer::Accepted(..)) { &mut accepted } else { &mut refused }) += 1;
-        input.extend(value.frame());
-        output += &format!("{answer}\n");
+        put(value.frame(), answer.to_string());
     }
+    listed::questions().iter().for_each(|question| put(question.frame(), question.line()));
     // the last frame ends early
     let frame = Value::new(Attribute::TsRefclk, "gps").frame();
     input.extend(&frame[..frame.len() - 1]);
-    output += &format!("cut\n{}\n", sums(accepted, refused));
+    output += &format!("cut\n{}\n", said.frames_and_asked());
     std::fs::write(folder.join("stdin"), input)?;
     std::fs::write(folder.join("stdout"), output)
 }

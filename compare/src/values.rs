@@ -1,5 +1,6 @@
 //! The values of a run, one after another: those of the lists, every short byte string behind each prefix, then those made from the seed.
 
+use crate::framing::put_value;
 use crate::lists;
 use crate::random::Random;
 use crate::record::Attribute;
@@ -18,10 +19,11 @@ impl Value {
         Self { attribute, bytes: text.into() }
     }
 
-    /// The value as `answers` takes it: the attribute's letter, the length in two bytes, high byte first, and the bytes.
+    /// The value as `answers` takes it, behind the attribute's letter.
     pub fn frame(&self) -> Vec<u8> {
-        let len = u16::try_from(self.bytes.len()).expect("a value that fits a frame");
-        [&[self.attribute.letter()], &len.to_be_bytes()[..], &self.bytes].concat()
+        let mut frame = vec![self.attribute.letter()];
+        put_value(&mut frame, &self.bytes);
+        frame
     }
 }
 

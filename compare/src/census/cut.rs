@@ -2,28 +2,20 @@
 
 use super::frames::{Call, MOST_MEMORY};
 use super::MEMORY;
-use crate::pipe::ask_once;
+use crate::pipe::prints;
 
 /// What stands in front of each, and what is owed for it and for what is cut.
 const OWED: &str = "counted\nclocks 1 streams 1 refused 0\ncut\ncalls 2\n";
 
 pub fn compare(program: &[String]) -> Result<bool, String> {
     let front = [Call::Count(b"gps".into()).frame(), Call::Totals.frame()].concat();
-    let mut equal = is_owed(program, &[], "calls 0\n")?;
+    let mut equal = prints(program, &[], "calls 0\n")?;
     let cuts = cuts();
     for cut in &cuts {
-        equal &= is_owed(program, &[&front[..], cut].concat(), OWED)?;
+        equal &= prints(program, &[&front[..], cut].concat(), OWED)?;
     }
     println!("cut: no frame, and two frames with each of {} behind them that are no whole one", cuts.len());
     Ok(equal)
-}
-
-fn is_owed(program: &[String], input: &[u8], owed: &str) -> Result<bool, String> {
-    let said = ask_once(program, input)?;
-    if said != owed.as_bytes() {
-        println!("DIFFERENCE at the input \"{}\"\n  \"{}\"\n  and not {owed:?}", input.escape_ascii(), said.escape_ascii());
-    }
-    Ok(said == owed.as_bytes())
 }
 
 /// Each kind of frame without its end; other letters, and too much memory, with a whole frame behind.

@@ -1,8 +1,9 @@
 //! The calls of a census as frames of the program `censuscalls`, and the lines that they owe.
 
 use super::Census;
+use crate::framing::{bytes, put_value, value};
 use std::fmt;
-use std::io::{self, BufRead, BufReader, BufWriter, Read, Write};
+use std::io::Read;
 
 /// A fresh census is lent at most so many bytes.
 pub const MOST_MEMORY: u32 = 300_000;
@@ -41,7 +42,7 @@ impl Call {
         }
     }
 
-    /// The letter, then a number of four bytes, a domain of one, or values, each behind its length in two bytes; high bytes first.
+    /// The letter, then a number of four bytes, high byte first, a domain of one, or values.
     pub fn frame(&self) -> Vec<u8> {
         let mut frame = vec![self.letter()];
         match self {
@@ -49,11 +50,7 @@ impl Call {
             Self::StreamsIn(domain) => frame.push(*domain),
             _ => (),
         }
-        for value in self.values() {
-            let len = u16::try_from(value.len()).expect("a value that fits a frame");
-            frame.extend(len.to_be_bytes());
-            frame.extend(value);
-        }
+        self.values().into_iter().for_each(|value| put_value(&mut frame, value));
         frame
     }
 
@@ -70,18 +67,6 @@ impl Call {
             _ => return None,
         })
     }
-}
-
-fn bytes<const N: usize>(input: &mut impl Read) -> Option<[u8; N]> {
-    let mut bytes = [0; N];
-    input.read_exact(&mut bytes).ok()?;
-    Some(bytes)
-}
-
-fn value(input: &mut impl Read) -> Option<Vec<u8>> {
-    let mut value = vec![0; usize::from(u16::from_be_bytes(bytes(input)?))];
-    input.read_exact(&mut value).ok()?;
-    Some(value)
 }
 
 impl fmt::Display for Call {
@@ -121,21 +106,4 @@ impl Census {
 /// The last line that `censuscalls` prints.
 pub fn last_line(calls: u64) -> String {
     format!("calls {calls}")
-}
-
-/// Reads the frames of standard input and prints what `answer` makes of each, as `censuscalls` does.
-pub fn stand_in(mut answer: impl FnMut(&Call) -> String) -> io::Result<()> {
-    let mut input = BufReader::with_capacity(1 << 16, io::stdin().lock());
-    let mut output = BufWriter::with_capacity(1 << 16, io::stdout().lock());
-    let mut calls = 0;
-    while !input.fill_buf()?.is_empty() {
-        let Some(call) = Call::read(&mut input) else {
-            writeln!(output, "cut")?;
-            break;
-        };
-        calls += 1;
-        writeln!(output, "{}", answer(&call))?;
-    }
-    writeln!(output, "{}", last_line(calls))?;
-    output.flush()
 }

@@ -1,7 +1,9 @@
 //! The clocks that one run is about, and values that name them in any spelling, or are refused.
 
-use super::{clock, domain_of, spelled};
-use crate::clock_signalling::{PtpDomain, ReferenceClock};
+use super::{domain_of, spelled};
+use crate::clock_signalling::{NtpServerAddr, PtpDomain, ReferenceClock};
+use crate::clocks::{clock, Clock};
+use crate::hosts;
 use crate::lists;
 use crate::random::Random;
 use crate::record::Attribute::TsRefclk;
@@ -12,8 +14,8 @@ use crate::values::Value;
 /// The values that pools are made from: all of the lists, and of those for ts-refclk the ones that are accepted and the ones that are not.
 pub struct Sources {
     known: Vec<Value>,
-    examples: Vec<ReferenceClock>,
-    accepted: Vec<ReferenceClock>,
+    examples: Vec<Clock>,
+    accepted: Vec<Clock>,
     refused: Vec<Vec<u8>>,
 }
 
@@ -30,7 +32,7 @@ impl Sources {
 
 pub struct Pool<'a> {
     sources: &'a Sources,
-    clocks: Vec<ReferenceClock>,
+    clocks: Vec<Clock>,
 }
 
 impl<'a> Pool<'a> {
@@ -50,12 +52,13 @@ impl<'a> Pool<'a> {
 
     fn new_clock(&self, random: &mut Random) -> ReferenceClock {
         match random.below(12) {
-            0 => one_of(random, &self.sources.examples).clone(),
-            1 => one_of(random, &self.sources.accepted).clone(),
-            2..=10 if !self.clocks.is_empty() => {
+            0 => one_of(random, &self.sources.examples).record.clone(),
+            1 => one_of(random, &self.sources.accepted).record.clone(),
+            2..=8 if !self.clocks.is_empty() => {
                 let clock = one_of(random, &self.clocks);
-                spelled::near(random, clock)
+                spelled::near(random, &clock.record)
             }
+            9 | 10 => with_host(random),
             _ => with_domain(random),
         }
     }
@@ -66,7 +69,11 @@ impl<'a> Pool<'a> {
 
     /// A spelling of the clock at the place.
     pub fn spelled(&self, random: &mut Random, at: usize) -> Vec<u8> {
-        spelled::value(random, &self.clocks[at]).into_bytes()
+        spelled::value(random, &self.clocks[at].record).into_bytes()
+    }
+
+    pub fn any_clock(&self, random: &mut Random) -> &Clock {
+        one_of(random, &self.clocks)
     }
 
     pub fn any_spelled(&self, random: &mut Random) -> Vec<u8> {
@@ -84,11 +91,16 @@ impl<'a> Pool<'a> {
         }
     }
 
+    /// A value of the lists that is refused.
+    pub fn refused(&self, random: &mut Random) -> Vec<u8> {
+        one_of(random, &self.sources.refused).clone()
+    }
+
     /// A value: mostly a spelling of one of the clocks, else refused, or of any sort.
     pub fn value(&self, random: &mut Random) -> Vec<u8> {
         let spelled = self.any_spelled(random);
         match random.below(100) {
-            0..=3 => one_of(random, &self.sources.refused).clone(),
+            0..=3 => self.refused(random),
             4..=6 => with_byte(random, spelled, 0xFF),
             7..=8 => lengthened(random, spelled),
             9..=11 => seeded::damaged(random, Value { attribute: TsRefclk, bytes: spelled }).bytes,
@@ -102,6 +114,12 @@ impl<'a> Pool<'a> {
 fn with_domain(random: &mut Random) -> ReferenceClock {
     let domain = PtpDomain::DomainNumber([0, 1, 126, 127][random.below(4)]);
     ReferenceClock::from_ptp_gmid_with_domain(random.number(), domain)
+}
+
+/// An NTP clock, mostly with a port of a few.
+pub fn with_host(random: &mut Random) -> ReferenceClock {
+    let port = [None, Some(0), Some(80), Some(123), Some(random.number() as u16)][random.below(5)];
+    NtpServerAddr::HostPort { hostname: hosts::any(random), port }.into()
 }
 
 fn one_of<'a, T>(random: &mut Random, from: &'a [T]) -> &'a T {

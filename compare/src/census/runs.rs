@@ -50,7 +50,7 @@ fn run(random: &mut Random, sources: &Sources) -> Vec<Call> {
 
 fn too_little(random: &mut Random) -> u32 {
     let any = random.below(MEMORY as usize) as u32;
-    [0, 1, MEMORY - 1, any][random.below(4)]
+    [0, MEMORY - 1, MEMORY - 1, any][random.below(4)]
 }
 
 fn enough(random: &mut Random) -> u32 {
@@ -74,6 +74,8 @@ fn many_clocks(random: &mut Random, sources: &Sources) -> Vec<Call> {
     let size = 254 + random.below(47);
     let pool = Pool::new(random, sources, size);
     let mut calls: Vec<Call> = (0..size).map(|at| Call::Count(pool.spelled(random, at))).collect();
+    // the first has one stream, and the last mostly none
+    calls.extend([Call::Withdraw(pool.spelled(random, 0)), Call::Count(pool.spelled(random, size - 1))]);
     for _ in 0..4 + random.below(12) {
         calls.extend((0..1 + random.below(4)).map(|_| freeing(random, &pool)));
         calls.extend((0..random.below(40)).map(|_| Call::Count(pool.any_spelled(random))));

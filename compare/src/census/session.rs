@@ -2,7 +2,7 @@
 
 use super::pool::{Pool, Sources};
 use super::{Census, MEMORY};
-use crate::check::PRINTED;
+use crate::check::{say_first_difference, PRINTED};
 use crate::lines::OTHERS;
 use crate::pipe;
 use crate::random::Random;
@@ -64,7 +64,7 @@ pub fn compare(texts: u64, seed: u64, program: &[String]) -> Result<bool, String
         if said != owed {
             differences += 1;
             if differences <= PRINTED {
-                say_difference(at, &said, &owed);
+                say_first_difference(&format!("text {at}"), &said, &owed);
             }
         }
     }
@@ -76,13 +76,6 @@ pub fn compare(texts: u64, seed: u64, program: &[String]) -> Result<bool, String
         println!("a sum is 0");
     }
     Ok(differences == 0 && ours.wrong == 0 && list.wrong == 0 && has_all)
-}
-
-/// Prints the first line in which they differ.
-fn say_difference(at: u64, said: &str, owed: &str) {
-    let same = said.lines().zip(owed.lines()).take_while(|(one, other)| one == other).count();
-    let line = |text: &str| text.lines().nth(same).map_or("nothing".to_string(), |line| line.escape_debug().to_string());
-    println!("DIFFERENCE at text {at}, line {} of what is printed\n  {}\n  and by the list\n  {}", same + 1, line(said), line(owed));
 }
 
 const NAMES: [&str; 6] = ["lines", "streams", "clocks", "counted", "refused", "uncounted"];

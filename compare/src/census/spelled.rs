@@ -1,10 +1,11 @@
-//! A clock of the module's records spelled in one of the ways that read as it, and clocks that differ from it in one thing.
+//! A clock of the module's records in one of its spellings, and clocks that differ from it in one thing.
 
 use crate::clock_signalling::{ClockSourceExt, Eui64, Ntp, NtpServerAddr, PrivateSource, Ptp, PtpDomain, PtpServer, PtpVersion, ReferenceClock};
+use crate::hosts;
 use crate::random::Random;
 use std::net::IpAddr;
 
-/// A value that reads as the clock.
+/// A value that names the clock.
 pub fn value(random: &mut Random, clock: &ReferenceClock) -> String {
     match clock {
         ReferenceClock::Ntp(Ntp { server: NtpServerAddr::HostPort { hostname, port } }) => format!("ntp={}", host_and_port(random, hostname, *port)),
@@ -20,13 +21,16 @@ pub fn value(random: &mut Random, clock: &ReferenceClock) -> String {
     }
 }
 
-/// An address in brackets or bare; with colons and a port it must have them.
+/// An address in brackets or bare; it must have them where with its port it would be an address too.
 fn host_and_port(random: &mut Random, host: &str, port: Option<u16>) -> String {
-    let needs_brackets = port.is_some() && host.contains(':');
-    let host = if host.parse::<IpAddr>().is_ok() && (needs_brackets || random.once_in(2)) { format!("[{host}]") } else { host.to_string() };
-    match port {
-        None => host,
-        Some(port) => format!("{host}:{}", number(random, port)),
+    let host = hosts::spelled(random, host);
+    let port = port.map_or(String::new(), |port| format!(":{}", number(random, port)));
+    let is_address = |text: &str| text.parse::<IpAddr>().is_ok();
+    let needs_brackets = !port.is_empty() && is_address(&format!("{host}{port}"));
+    if is_address(&host) && (needs_brackets || random.once_in(2)) {
+        format!("[{host}]{port}")
+    } else {
+        format!("{host}{port}")
     }
 }
 
@@ -69,7 +73,8 @@ pub fn near(random: &mut Random, clock: &ReferenceClock) -> ReferenceClock {
 fn near_server(random: &mut Random, server: &NtpServerAddr) -> NtpServerAddr {
     match server {
         NtpServerAddr::HostPort { hostname, port } if random.once_in(2) => {
-            NtpServerAddr::HostPort { hostname: near_text(random, hostname), port: *port }
+            let hostname = if random.once_in(2) { hosts::near(random, hostname) } else { near_text(random, hostname) };
+            NtpServerAddr::HostPort { hostname, port: *port }
         }
         NtpServerAddr::HostPort { hostname, port: None } => NtpServerAddr::from_hostname_with_port(hostname, random.below(3) as u16),
         NtpServerAddr::HostPort { hostname, port: Some(_) } if random.once_in(2) => NtpServerAddr::from_hostname(hostname),

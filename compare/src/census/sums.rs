@@ -2,8 +2,9 @@
 
 use super::frames::{last_line, Call};
 use super::runs::Calls;
-use super::{clock, cut, Census, CLOCKS, MEMORY};
+use super::{cut, Census, CLOCKS, MEMORY};
 use crate::check::{list, PRINTED};
+use crate::clocks::clock;
 use crate::pipe;
 use crate::table::LONGEST;
 use std::collections::BTreeMap;

@@ -1,0 +1,34 @@
+-- `answers::is_read` is safe: the room holds what is read into it.
+use borrow.Author.Needs.{needs}
+use Rattle.answers.proofs.Laws.{prefix-length}
+use Rattle.answers.proofs.is_read.Statement.{statement}
+use Rattle.answers.proofs.is_read.Tie as tie
+
+returns : tie.Need-returns
+returns c = search needs
+
+slice-relend-prefix-read-full : tie.Need-slice-relend-prefix-read-full
+slice-relend-prefix-read-full c = search needs
+
+slice-aggregate-read-full : tie.Need-slice-aggregate-read-full
+slice-aggregate-read-full c = search (needs, prefix-length)
+
+read-full-requires : tie.Need-read-full-requires
+read-full-requires c κs = search needs
+
+same-length : tie.Need-same-length
+same-length c = search needs
+
+returns-2 : tie.Need-returns-2
+returns-2 c = search needs
+
+pub is-read-spec : {M : Type 1} → statement M
+is-read-spec =
+    tie.close
+    (tie.spec
+    returns
+    slice-relend-prefix-read-full
+    slice-aggregate-read-full
+    read-full-requires
+    same-length
+    returns-2)
