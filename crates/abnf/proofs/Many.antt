@@ -32,13 +32,13 @@ module _ (p : Rule) where
   unfolding ◌then_many◌ nothing
   many_cons x s = rw (many_none (λ t. nothing (x ∷ t)) (λ t. refl) s) (or-false (((λ t. p (x ∷ t)) then_many p) s))
 
-  pub then_many : (q r : Rule) (s : List ℕ) → ((q then r) then_many p) s ≡ (q then (r then_many p)) s
+  pub then_many_lem : (q r : Rule) (s : List ℕ) → ((q then r) then_many p) s ≡ (q then (r then_many p)) s
   unfolding ◌then◌ ◌then_many◌
-  then_many q r [] = refl
-  then_many q r (x ∷ s) =
+  then_many_lem q r [] = refl
+  then_many_lem q r (x ∷ s) =
       rw (many_or (λ t. q [] && r (x ∷ t)) ((λ t. q (x ∷ t)) then r) s)
       (rw (many_and (q []) (λ t. r (x ∷ t)) s)
-      (rw (then_many (λ t. q (x ∷ t)) r s)
+      (rw (then_many_lem (λ t. q (x ∷ t)) r s)
       (or_nests (q []) (r []) (((λ t. p (x ∷ t)) then_many p) s) (((λ t. r (x ∷ t)) then_many p) s)
       (((λ t. q (x ∷ t)) then (r then_many p)) s))))
 

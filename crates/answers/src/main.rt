@@ -3,6 +3,8 @@
 // and media, and the line says which governs and where in it the clock is named. A value is its length in two bytes, the high one first, and its bytes.
 // A frame that ends early, or that begins with another letter, prints `cut`, and nothing more is read. The last line has the counts. Of a longer input
 // the first 4,294,967,295 frames are read.
+#![tactic(auto)]
+
 ghost use Rattle.std.specs.Prelude.{◌≤◌, length};
 
 use briefreply::ReplySize;
@@ -14,7 +16,7 @@ use text::Place;
 const MOST_FRAMES: u64 = 4294967295;
 
 // What is asked, of values that stand at the front of the room for each, so many bytes long.
-#[derive(Drop)]
+#[derive(Clone, Copy)]
 enum Ask {
     Reference(usize),
     Media(usize),
@@ -23,7 +25,7 @@ enum Ask {
 }
 
 // The next frame; or none; or one that is cut; or the input could not be read.
-#[derive(Drop)]
+#[derive(Clone, Copy)]
 enum Frame {
     Ask(Ask),
     End,
@@ -33,7 +35,7 @@ enum Frame {
 
 // What came of it: its value was accepted, or refused, or a question was answered; or nothing more is read, since the input ended, or was cut, or a read
 // or a write failed.
-#[derive(Drop)]
+#[derive(Clone, Copy)]
 enum Told {
     Ok,
     No,
@@ -44,14 +46,14 @@ enum Told {
 }
 
 // A line at the front of the room: what it tells, and its length, which may be more than the room has.
-#[derive(Drop)]
+#[derive(Clone, Copy)]
 struct Line {
     told: Told,
     len: usize,
 }
 
 // Beside what came, how many bytes at the front of the room are still to be printed.
-#[derive(Drop)]
+#[derive(Clone, Copy)]
 struct Step {
     told: Told,
     held: usize,

@@ -1,4 +1,6 @@
 // The questions that a census answers from its memory.
+#![tactic(auto)]
+
 ghost use Rattle.std.specs.Prelude.{◌≡◌};
 ghost use Rattle.slots.specs.Slot.{taken_slots, stream_sum};
 ghost use Rattle.counts.specs.State.{used_in};
@@ -10,7 +12,7 @@ use counts::Census;
 use streams::{LEAST_MEMORY, Uncounted};
 
 // The answer to a question, or why there is none.
-#[derive(Drop)]
+#[derive(Clone, Copy)]
 pub enum Asked {
     Number(u32),
     Refused(Uncounted),

@@ -1,5 +1,7 @@
 // The replies that need no record: that of a refused value, and that of a line which is seen at once to be no clock line. Each is put at the
 // front of lent room.
+#![tactic(auto)]
+
 ghost use Rattle.std.specs.Prelude.{◌≡◌, [], ◌∷◌, ◌++◌};
 ghost use Rattle.number.specs.Decimal.{decimal};
 ghost use Rattle.room.specs.Put.{Put};
@@ -15,7 +17,7 @@ use report::Kind;
 pub const MOST_LINE_BYTES: usize = 4096;
 
 // A line's kind, and the length of what is printed for it: it was printed where the room has so many bytes.
-#[derive(Drop)]
+#[derive(Clone, Copy)]
 pub struct ReplySize {
     pub kind: Kind,
     pub len: usize,

@@ -1,5 +1,7 @@
 // Counts the streams of a session text by their clocks. Standard input is read in fragments and cut into lines; what is counted of a line, and all that
 // is printed, is in `roll` and `rolltext`.
+#![tactic(auto)]
+
 ghost use Rattle.std.specs.Prelude.{◌≡◌, ◌≤◌, length};
 
 use libc::{STDERR_FILENO, STDIN_FILENO, STDOUT_FILENO};
@@ -13,14 +15,14 @@ const MOST_KEPT: usize = 4098;
 const MOST_READ: usize = 4294967295;
 
 // The length of the open line, and the roll of the lines before it.
-#[derive(Drop)]
+#[derive(Clone, Copy)]
 struct Cut {
     len: usize,
     roll: Roll,
 }
 
 // How many bytes came, none at the end of the input; whether they were read; and what they leave.
-#[derive(Drop)]
+#[derive(Clone, Copy)]
 struct Taken {
     read: usize,
     whole: bool,

@@ -3,6 +3,8 @@
 // for; `j` and two values, the first joined into the second; `d` and a byte, the streams of a domain; `t`, the totals. A value is its length in two
 // bytes, and its bytes; numbers have the high byte first. A frame that ends early, begins with another letter or asks for too much memory prints
 // `cut`, and nothing more is read. The last line has the number of calls. Of a longer input the first 4,294,967,295 frames are read.
+#![tactic(auto)]
+
 ghost use Rattle.std.specs.Prelude.{◌≡◌, length};
 
 use asking::Asked;
@@ -23,7 +25,7 @@ const SECOND_VALUE: usize = 65536;
 const MUCH_HELD: usize = 65000;
 
 // A call of the census that there is, with the places of its values.
-#[derive(Drop)]
+#[derive(Clone, Copy)]
 enum Call {
     Count(Place),
     Withdraw(Place),
@@ -34,7 +36,7 @@ enum Call {
 }
 
 // The next frame: a fresh census that is lent so many bytes, or a call; or none; or one that is cut; or the input could not be read.
-#[derive(Drop)]
+#[derive(Clone, Copy)]
 enum Frame {
     Start(usize),
     Call(Call),
@@ -44,21 +46,21 @@ enum Frame {
 }
 
 // A value that was read, or the input has no more.
-#[derive(Drop)]
+#[derive(Clone, Copy)]
 enum ReadValue {
     At(Place),
     Short,
 }
 
 // The census after a call, and how many bytes are held with its line.
-#[derive(Drop)]
+#[derive(Clone, Copy)]
 struct Answered {
     census: Census,
     held: usize,
 }
 
 // How many bytes at the front of the room are still to be printed; or they could not be printed.
-#[derive(Drop)]
+#[derive(Clone, Copy)]
 enum Held {
     Bytes(usize),
     Unprinted,

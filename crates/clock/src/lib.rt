@@ -1,5 +1,7 @@
 // The records of ts-refclk, and what both attributes share, under the names of the Rust module clock_signalling. A place stands for each text, and
 // a case of its own for what may be absent. The constructors and setters are in the module.
+#![tactic(auto)]
+
 ghost use Rattle.std.specs.Prelude.{◌≡◌};
 ghost use Rattle.clock.specs.Refusal.{refusal};
 
@@ -8,7 +10,7 @@ use text::Place;
 mod reference;
 
 // A refusal: the number of the rule that was broken, and the place of what breaks it.
-#[derive(Drop)]
+#[derive(Clone, Copy)]
 pub struct Refusal {
     pub number: u8,
     pub place: Place,
@@ -26,7 +28,7 @@ impl Refusal {
 }
 
 // What a ts-refclk value names.
-#[derive(Drop)]
+#[derive(Clone, Copy)]
 pub enum ReferenceClock {
     Ntp(Ntp),
     Ptp(Ptp),
@@ -39,42 +41,42 @@ pub enum ReferenceClock {
 }
 
 // What comes of a domain number: the record, or the number of the refusal.
-#[derive(Drop)]
+#[derive(Clone, Copy)]
 pub enum TriedReferenceClock {
     Made(ReferenceClock),
     Refused(u8),
 }
 
-#[derive(Drop)]
+#[derive(Clone, Copy)]
 pub struct Ntp {
     pub server: NtpServerAddr,
 }
 
-#[derive(Drop)]
+#[derive(Clone, Copy)]
 pub enum NtpServerAddr {
     HostPort { hostname: Place, port: OptPort },
     Traceable,
 }
 
-#[derive(Drop)]
+#[derive(Clone, Copy)]
 pub enum OptPort {
     NoPort,
     SomePort(u16),
 }
 
-#[derive(Drop)]
+#[derive(Clone, Copy)]
 pub struct Ptp {
     pub version: PtpVersion,
     pub server: PtpServer,
 }
 
-#[derive(Drop)]
+#[derive(Clone, Copy)]
 pub enum TriedPtp {
     Made(Ptp),
     Refused(u8),
 }
 
-#[derive(Drop)]
+#[derive(Clone, Copy)]
 pub enum PtpVersion {
     Ieee1588_2002,
     Ieee1588_2008,
@@ -82,77 +84,77 @@ pub enum PtpVersion {
     Ext(Place),
 }
 
-#[derive(Drop)]
+#[derive(Clone, Copy)]
 pub enum PtpServer {
     GmidDomain { gmid: Eui64, domain: OptDomain },
     Traceable,
 }
 
-#[derive(Drop)]
+#[derive(Clone, Copy)]
 pub enum TriedPtpServer {
     Made(PtpServer),
     Refused(u8),
 }
 
 // The eight bytes as one number, the first byte highest.
-#[derive(Drop)]
+#[derive(Clone, Copy)]
 pub struct Eui64 {
     pub id: u64,
 }
 
 // A name belongs to IEEE 1588-2002, a number to IEEE 1588-2008.
-#[derive(Drop)]
+#[derive(Clone, Copy)]
 pub enum PtpDomain {
     DomainName { name: Place },
     DomainNumber(u8),
 }
 
-#[derive(Drop)]
+#[derive(Clone, Copy)]
 pub enum OptDomain {
     NoDomain,
     SomeDomain(PtpDomain),
 }
 
-#[derive(Drop)]
+#[derive(Clone, Copy)]
 pub enum TriedPtpDomain {
     Made(PtpDomain),
     Refused(u8),
 }
 
-#[derive(Drop)]
+#[derive(Clone, Copy)]
 pub enum PrivateSource {
     Standard,
     Traceable,
 }
 
-#[derive(Drop)]
+#[derive(Clone, Copy)]
 pub struct ClockSourceExt {
     pub name: Place,
     pub value: OptValue,
 }
 
-#[derive(Drop)]
+#[derive(Clone, Copy)]
 pub enum OptValue {
     NoValue,
     SomeValue(Place),
 }
 
 // What reading a ts-refclk value answers.
-#[derive(Drop)]
+#[derive(Clone, Copy)]
 pub enum ReferenceClockRead {
     Accepted(ReferenceClock),
     Refused(Refusal),
 }
 
 // What writing answers: the length of the text, or why nothing was written.
-#[derive(Drop)]
+#[derive(Clone, Copy)]
 pub enum Wrote {
     Length(usize),
     Refused(WriteRefusal),
 }
 
 // The value is too long, a place reaches outside it, or the room is shorter than the text, which needs so many bytes.
-#[derive(Drop)]
+#[derive(Clone, Copy)]
 pub enum WriteRefusal {
     Value(Refusal),
     Outside,

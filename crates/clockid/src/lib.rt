@@ -1,4 +1,6 @@
 // What follows `id=` in a mediaclk value, up to the first space: a tag, and whether `src:` stands before it.
+#![tactic(auto)]
+
 ghost use Rattle.std.specs.Prelude.{◌≡◌};
 ghost use Rattle.meaning.specs.MediaClock.{tag_of, id_of};
 ghost use Rattle.clockid.specs.AsAnswer.{id_answer};
@@ -7,7 +9,7 @@ use clock::Refusal;
 use mediarecord::MediaClockId;
 use text::Place;
 
-#[derive(Drop)]
+#[derive(Clone, Copy)]
 pub enum IdRead {
     Accepted(MediaClockId),
     Refused(Refusal),

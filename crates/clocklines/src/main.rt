@@ -1,4 +1,6 @@
 // Prints an answer for each line of standard input, which is read in fragments, and the totals.
+#![tactic(auto)]
+
 ghost use Rattle.std.specs.Prelude.{◌≡◌, ◌≤◌, length};
 
 use libc::{STDERR_FILENO, STDIN_FILENO, STDOUT_FILENO};
@@ -6,7 +8,7 @@ use lines::{Filling, State};
 use text::Place;
 
 // How many bytes came, none at the end of the input; whether they were read and what is printed for them was written; and the state after them.
-#[derive(Drop)]
+#[derive(Clone, Copy)]
 struct Taken {
     read: usize,
     whole: bool,

@@ -1,4 +1,6 @@
 // A stream is counted by its value.
+#![tactic(auto)]
+
 ghost use Rattle.std.specs.Prelude.{◌≡◌, max};
 ghost use Rattle.clock.specs.declared.ReferenceClockRead.TheVariants.{Accepted};
 ghost use Rattle.meaning.specs.ReferenceClock.{read_reference_clock};

@@ -1,4 +1,6 @@
 // The state of a census: the counts that stand by value beside its memory, and how they change.
+#![tactic(auto)]
+
 ghost use Rattle.std.specs.Prelude.{◌≡◌, ◌-◌};
 ghost use Rattle.naming.specs.Domain.{or_none, domain_in};
 ghost use Rattle.counts.specs.State.{census as censusOf, fresh_census, used_in, plus as capped, more, less, one_more, one_less, domain_count};
@@ -8,7 +10,7 @@ use clock::ReferenceClock;
 use streams::{MOST_CLOCKS, MOST_STREAMS, Uncounted, Verdict};
 
 // How many slots of the memory were ever used; all streams; those of refused values; those of each domain number.
-#[derive(Drop)]
+#[derive(Clone, Copy)]
 pub struct Census {
     pub used: u16,
     pub total: u32,
@@ -17,7 +19,7 @@ pub struct Census {
 }
 
 // What a call answers, and the census after it.
-#[derive(Drop)]
+#[derive(Clone, Copy)]
 pub struct Called {
     pub verdict: Verdict,
     pub census: Census,

@@ -1,4 +1,6 @@
 // Numbers put into lent room as their digits, as `room` puts texts.
+#![tactic(auto)]
+
 ghost use Rattle.std.specs.Prelude.{◌≡◌, ◌∷◌, [], ◌*◌, ◌<◌, length};
 ghost use Rattle.number.specs.Decimal.{decimal};
 ghost use Rattle.number.specs.Hex.{hex_capital, hex_small, hex_capitals, hex_bytes};

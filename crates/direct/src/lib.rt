@@ -1,5 +1,7 @@
 // What follows `direct` in a mediaclk value: the clock, or the refusal of the first rule that is broken. Each text starts at the place `at` of the
 // whole value, and the places in it fit a usize.
+#![tactic(auto)]
+
 ghost use Rattle.std.specs.Prelude.{◌≡◌, ◌+◌, ◌^◌, ◌<◌, length};
 ghost use Rattle.meaning.specs.MediaClock.{denominator_of, ratio_of, rate_of, offset_of, direct_of};
 ghost use Rattle.direct.specs.Private.AsAnswer.{denominator_answer, rate_answer};
@@ -10,19 +12,19 @@ use mediarecord::{Direct, OptOffset, OptRate, Rate};
 
 const MOST_32: u32 = 4294967295;
 
-#[derive(Drop)]
+#[derive(Clone, Copy)]
 enum DenominatorRead {
     Accepted(u32),
     Refused(Refusal),
 }
 
-#[derive(Drop)]
+#[derive(Clone, Copy)]
 enum RateRead {
     Accepted(OptRate),
     Refused(Refusal),
 }
 
-#[derive(Drop)]
+#[derive(Clone, Copy)]
 pub enum DirectRead {
     Accepted(Direct),
     Refused(Refusal),

@@ -1,5 +1,7 @@
 // Whether two records are equal, each over the value that it points into, and a number that records of one clock share. A place that reaches outside
 // its value has the bytes that are there.
+#![tactic(auto)]
+
 mod parts;
 mod prints;
 

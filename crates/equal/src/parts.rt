@@ -14,7 +14,7 @@ use mediarecord::{Direct, MediaClock, MediaClockSource, OptId, OptOffset, OptRat
 use text::Place;
 
 // The head is a host or a tag.
-#[derive(Drop)]
+#[derive(Clone, Copy)]
 pub(crate) struct Parts {
     pub(crate) kind: u8,
     pub(crate) form: u8,

@@ -1,31 +1,33 @@
 // An EUI-64 as text: 23 bytes, cut at each `-` into segments of two bytes, each a number of base 16.
+#![tactic(auto)]
+
 ghost use Rattle.std.specs.Prelude.{◌≡◌, ◌+◌, ◌≤◌, eqb, length, drop};
 ghost use Rattle.text.specs.Find.{before};
 ghost use Rattle.eui64.specs.Eui64.{high_digit, segment_of, eui64_of, refused};
 
 use text::Place;
 
-#[derive(Drop)]
+#[derive(Clone, Copy)]
 pub enum Eui64Read {
     Id(u64),
     Refused(Fault),
 }
 
 // The rule that a text breaks, and where: all of it, or the first segment that breaks it.
-#[derive(Drop)]
+#[derive(Clone, Copy)]
 pub struct Fault {
     pub rule: BrokenRule,
     pub place: Place,
 }
 
-#[derive(Drop)]
+#[derive(Clone, Copy)]
 pub enum BrokenRule {
     Length,
     SegmentLength,
     SegmentDigits,
 }
 
-#[derive(Drop)]
+#[derive(Clone, Copy)]
 enum Segment {
     Byte(u64),
     NotHex,

@@ -1,4 +1,6 @@
 // The entry points, called one after another: README.md and docs/LINK.md show the marked lines.
+#![tactic(auto)]
+
 ghost use Rattle.std.specs.Prelude.{◌≡◌, length};
 
 use clock::{ReferenceClockRead, Wrote};

@@ -1,4 +1,6 @@
 // An extension of either attribute, a name and perhaps a value: read from a text, and put as text into lent room.
+#![tactic(auto)]
+
 ghost use Rattle.std.specs.Prelude.{◌≡◌, ◌++◌, ◌+◌, ◌*◌, length};
 ghost use Rattle.text.specs.Place.{bytes_at};
 ghost use Rattle.meaning.specs.Answer.{extension_of};
@@ -11,13 +13,13 @@ use clock::{OptValue, Refusal};
 use text::Place;
 
 // The parts of an extension, of which each attribute makes its own record.
-#[derive(Drop)]
+#[derive(Clone, Copy)]
 pub struct Extension {
     pub name: Place,
     pub value: OptValue,
 }
 
-#[derive(Drop)]
+#[derive(Clone, Copy)]
 pub enum ExtensionRead {
     Accepted(Extension),
     Refused(Refusal),

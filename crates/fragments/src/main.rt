@@ -3,6 +3,8 @@
 // bytes, the closing call. Numbers have the high byte first. A call prints how many bytes it filled, and these bytes in base 16, or the number of its
 // refusal. A frame that ends early, begins with another letter or asks for too much prints `cut`, and nothing more is read. The last line has the number of
 // calls. Of a longer input the first 4,294,967,295 frames are read.
+#![tactic(auto)]
+
 ghost use Rattle.std.specs.Prelude.{◌≡◌, length};
 
 use libc::{STDERR_FILENO, STDIN_FILENO, STDOUT_FILENO};
@@ -24,7 +26,7 @@ const MUCH_HELD: usize = 30000;
 const PART: usize = 16384;
 
 // A fresh reader; a fragment of so many bytes, or the closing call, with so many bytes of room.
-#[derive(Drop)]
+#[derive(Clone, Copy)]
 enum Call {
     Start,
     Feed { room: usize, len: usize },
@@ -32,7 +34,7 @@ enum Call {
 }
 
 // The next frame: a call; or none; or one that is cut; or the input could not be read.
-#[derive(Drop)]
+#[derive(Clone, Copy)]
 enum Frame {
     Call(Call),
     End,
@@ -41,21 +43,21 @@ enum Frame {
 }
 
 // A number that was read, or the input has no more.
-#[derive(Drop)]
+#[derive(Clone, Copy)]
 enum ReadNumber {
     Value(usize),
     Short,
 }
 
 // How many bytes at the front of the output are still to be printed; or they could not be printed.
-#[derive(Drop)]
+#[derive(Clone, Copy)]
 enum Held {
     Bytes(usize),
     Unprinted,
 }
 
 // The state after a call, and what is held with its line.
-#[derive(Drop)]
+#[derive(Clone, Copy)]
 struct Answered {
     state: State,
     held: Held,

@@ -1,4 +1,6 @@
 // What is asked of every value before it is read: that it is not too long, and then that it is well-formed UTF-8.
+#![tactic(auto)]
+
 ghost use Rattle.std.specs.Prelude.{◌≡◌};
 ghost use Rattle.meaning.specs.Answer.{accepted, guarded};
 ghost use Rattle.guard.specs.AsAnswer.{checked_answer};
@@ -9,7 +11,7 @@ use clock::Refusal;
 pub const MOST_VALUE_BYTES: usize = 1024;
 
 // The value passes, or the refusal.
-#[derive(Drop)]
+#[derive(Clone, Copy)]
 pub enum Checked {
     Passed,
     Refused(Refusal),

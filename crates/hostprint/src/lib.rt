@@ -1,4 +1,6 @@
 // A number that hosts of one server share, and how texts and numbers are mixed into such a number.
+#![tactic(auto)]
+
 ghost use Rattle.std.specs.Prelude.{◌≡◌};
 ghost use Rattle.hosts.specs.Server.{lower as small, folded};
 ghost use Rattle.hostprint.specs.Mixed.{mixed, mixed_text};

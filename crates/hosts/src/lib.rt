@@ -1,4 +1,6 @@
 // Whether two hosts name one server.
+#![tactic(auto)]
+
 ghost use Rattle.std.specs.Prelude.{◌≡◌, eqb};
 ghost use Rattle.text.specs.Word.{same};
 ghost use Rattle.hosts.specs.Server.{lower as small, folded, one_server};

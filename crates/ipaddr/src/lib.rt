@@ -1,4 +1,6 @@
 // Whether a text is an IP address (RFC 3986, section 3.2.2).
+#![tactic(auto)]
+
 ghost use Rattle.std.specs.Prelude.{◌≡◌, length};
 ghost use Rattle.number.specs.Hex.{between};
 ghost use Rattle.ipaddr.specs.Address.{dec_octet, ipv4address, h16, ipv6address, ip_address};

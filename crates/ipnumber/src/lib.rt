@@ -1,4 +1,6 @@
 // The number of an IP address: its family, and its octets or groups (RFC 4291, section 2.2).
+#![tactic(auto)]
+
 ghost use Rattle.std.specs.Prelude.{◌≡◌, ◌+◌, ◌*◌, ◌-◌, ◌≤◌};
 ghost use Rattle.std.proofs.Math.Seq.{paste};
 ghost use Rattle.ipaddr.specs.Number.{ip_address_of};
@@ -7,14 +9,14 @@ ghost use Rattle.ipnumber.specs.Told.{told};
 ghost use Rattle.ipnumber.specs.Private.Holding.{Small, no_words, octet_of, group_of, pushed, octets_read, with_pairs, with_last, GroupsRead, SixRead};
 
 // The family, 4 or 6, or 0 where the text is no address; the words are four octets or eight groups, and 0 where there are none.
-#[derive(Drop)]
+#[derive(Clone, Copy)]
 pub struct IpNumber {
     pub family: u8,
     pub words: [u16; 8],
 }
 
 // The words read so far, and 0 behind them; the count is 9 where the text is not what was to be read.
-#[derive(Drop)]
+#[derive(Clone, Copy)]
 struct Words {
     count: usize,
     words: [u16; 8],

@@ -1,4 +1,6 @@
 // A clock is joined into another: its streams are then the other's.
+#![tactic(auto)]
+
 ghost use Rattle.std.specs.Prelude.{◌≡◌};
 ghost use Rattle.counts.specs.Outcome.{Does};
 ghost use Rattle.joining.specs.Joining.{Moves, join_slots, Joins};

@@ -1,4 +1,6 @@
 // Says of each line of standard input, of its first 65,536 bytes, what each of the small readers makes of it; and how many lines there were.
+#![tactic(auto)]
+
 ghost use Rattle.std.specs.Prelude.{◌≤◌, length};
 
 use eui64::{BrokenRule, Eui64Read, Fault};

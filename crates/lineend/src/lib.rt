@@ -1,4 +1,6 @@
 // The end of a line.
+#![tactic(auto)]
+
 ghost use Rattle.std.specs.Prelude.{◌≡◌, length};
 ghost use Rattle.report.specs.Lines.{without_cr};
 

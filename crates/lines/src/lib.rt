@@ -1,5 +1,7 @@
 // The reader of lines: a small state beside lent memory, that takes a text in fragments of any length. Each call prints into lent room what the
 // lines that end in it are answered with, or is refused and changes nothing.
+#![tactic(auto)]
+
 ghost use Rattle.std.specs.Prelude.{◌≡◌, [], length, replicate};
 ghost use Rattle.report.specs.Reader.{reader_of};
 ghost use Rattle.lines.specs.View.{state_of};
@@ -13,7 +15,7 @@ use report::Totals;
 pub const MOST_READ: usize = openline::MOST_READ;
 
 // The open line has `len` bytes at the memory's front; `totals` are those of the lines before it.
-#[derive(Drop)]
+#[derive(Clone, Copy)]
 pub struct State {
     pub len: usize,
     pub totals: Totals,
@@ -22,7 +24,7 @@ pub struct State {
 }
 
 // Why a call is refused: it comes after the closing one; the text would be too long; the room is too short.
-#[derive(Drop)]
+#[derive(Clone, Copy)]
 pub enum Unfed {
     Closed,
     OverLimit,
@@ -30,13 +32,13 @@ pub enum Unfed {
 }
 
 // How many bytes of the room were filled, or why nothing was done.
-#[derive(Drop)]
+#[derive(Clone, Copy)]
 pub enum Filling {
     Filled(usize),
     Refused(Unfed),
 }
 
-#[derive(Drop)]
+#[derive(Clone, Copy)]
 pub struct Fed {
     pub filling: Filling,
     pub state: State,

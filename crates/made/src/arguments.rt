@@ -7,7 +7,7 @@ use clock::{
 use mediarecord::{Direct, MediaClock, MediaClockExt, MediaClockId, MediaClockSource, Rate};
 use text::Place;
 
-#[derive(Drop)]
+#[derive(Clone, Copy)]
 pub(crate) struct Arguments {
     // A host, a name or a domain name; a value; a tag or a version.
     pub(crate) p: Place,

@@ -2,6 +2,8 @@
 // number of its refusal. A frame is the row of the function in docs/ITEMS.md, two bytes of length, 36 of arguments and the value that their
 // places point into; no frame has a row of another kind. One that ends early, or is too long, prints `cut`, and no other is read. The last line
 // has the counts.
+#![tactic(auto)]
+
 mod arguments;
 mod media;
 mod reference;
@@ -16,7 +18,7 @@ use text::Place;
 const MOST_FRAMES: u64 = 1000000;
 
 // What was said of a frame; nothing where none was left, or none that was whole; or the input could not be read.
-#[derive(Drop)]
+#[derive(Clone, Copy)]
 pub enum FrameSaid {
     Nothing,
     Record,

@@ -1,1 +1,2 @@
 // What each value means: definitions and theorems alone (specs/, proofs/).
+#![tactic(auto)]

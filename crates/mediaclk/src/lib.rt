@@ -1,4 +1,6 @@
 // What a mediaclk value reads as: the reading rules in their order.
+#![tactic(auto)]
+
 ghost use Rattle.std.specs.Prelude.{◌≡◌, true, false, ◌+◌, ◌≤◌, length};
 ghost use Rattle.text.specs.Word.{word, same, starts};
 ghost use Rattle.meaning.specs.MediaClock.{extension_media_of, media_clock_of, with_clock, source_of, as_media_clock_source_read, read_media_clock_source};
@@ -12,14 +14,14 @@ use guard::Checked;
 use mediarecord::{MediaClock, MediaClockExt, MediaClockSource, MediaClockSourceRead, OptId};
 use stream::StreamRead;
 
-#[derive(Drop)]
+#[derive(Clone, Copy)]
 enum MediaClockRead {
     Accepted(MediaClock),
     Refused(Refusal),
 }
 
 // What stands before the clock, and the place where the clock starts.
-#[derive(Drop)]
+#[derive(Clone, Copy)]
 enum FrontRead {
     Accepted(OptId, usize),
     Refused(Refusal),

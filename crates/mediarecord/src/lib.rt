@@ -1,5 +1,7 @@
 // The records of mediaclk, under the names of the Rust module clock_signalling, and their constructors and setters in its order. A place stands for
 // each text, and a case of its own for what may be absent. A `From` there is a function here, named by what it takes.
+#![tactic(auto)]
+
 ghost use Rattle.std.specs.Prelude.{◌≡◌, true, false, ◌&&◌, eqb};
 ghost use Rattle.mediarecord.specs.Records.{media_clock_source, media_clock_id, rate, direct, media_clock_ext};
 ghost use Rattle.mediarecord.specs.Setters.{with_id, with_src, with_offset, with_rate, with_media_value};
@@ -8,13 +10,13 @@ use clock::{Eui64, OptValue, Refusal};
 use text::Place;
 
 // What a mediaclk value says.
-#[derive(Drop)]
+#[derive(Clone, Copy)]
 pub struct MediaClockSource {
     pub id: OptId,
     pub clock: MediaClock,
 }
 
-#[derive(Drop)]
+#[derive(Clone, Copy)]
 pub enum MediaClock {
     Sender,
     Direct(Direct),
@@ -23,50 +25,50 @@ pub enum MediaClock {
 }
 
 // A tag, and whether `src:` stands before it.
-#[derive(Drop)]
+#[derive(Clone, Copy)]
 pub struct MediaClockId {
     pub src: bool,
     pub tag: Place,
 }
 
-#[derive(Drop)]
+#[derive(Clone, Copy)]
 pub enum OptId {
     NoId,
     SomeId(MediaClockId),
 }
 
-#[derive(Drop)]
+#[derive(Clone, Copy)]
 pub struct Rate {
     pub numerator: u32,
     pub denominator: u32,
 }
 
-#[derive(Drop)]
+#[derive(Clone, Copy)]
 pub enum OptRate {
     NoRate,
     SomeRate(Rate),
 }
 
-#[derive(Drop)]
+#[derive(Clone, Copy)]
 pub struct Direct {
     pub offset: OptOffset,
     pub rate: OptRate,
 }
 
-#[derive(Drop)]
+#[derive(Clone, Copy)]
 pub enum OptOffset {
     NoOffset,
     SomeOffset(u32),
 }
 
-#[derive(Drop)]
+#[derive(Clone, Copy)]
 pub struct MediaClockExt {
     pub name: Place,
     pub value: OptValue,
 }
 
 // What reading a mediaclk value answers.
-#[derive(Drop)]
+#[derive(Clone, Copy)]
 pub enum MediaClockSourceRead {
     Accepted(MediaClockSource),
     Refused(Refusal),

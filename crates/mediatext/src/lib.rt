@@ -1,5 +1,7 @@
 // The text of a mediaclk record. A local that holds a place in the room is named by what is put there. The bound in a contract is the sum of what is
 // put: the bytes of the words, 10 for a number, 23 for an EUI-64, and all of the value for each place.
+#![tactic(auto)]
+
 ghost use Rattle.std.specs.Prelude.{cond, ◌+◌, ◌*◌, length};
 ghost use Rattle.text.specs.Place.{bytes_at};
 ghost use Rattle.meaning.specs.Meaning.{srcTag, plainTag, direct, offset_means, rate_means, id_means, media_means};

@@ -1,4 +1,6 @@
 // What a census asks of a clock: its PTP domain number. The rule by which values name clocks stands in specs/.
+#![tactic(auto)]
+
 ghost use Rattle.std.specs.Prelude.{◌≡◌};
 ghost use Rattle.naming.specs.Domain.{or_none, server_domain, domain_in};
 

@@ -1,5 +1,7 @@
 // What follows `ntp=` in a ts-refclk value: the server, or the refusal of the first rule that is broken. Each text starts at the place `at` of the
 // whole value, and the places in it fit a usize.
+#![tactic(auto)]
+
 ghost use Rattle.std.specs.Prelude.{◌≡◌, ◌+◌, ◌-◌, ◌^◌, ◌≤◌, ◌<◌, length, take, drop};
 ghost use Rattle.meaning.specs.ReferenceClock.{port_of, address_of, bracket_of, host_of, ntp_of};
 ghost use Rattle.ntp.specs.Private.AsAnswer.{port_answer};
@@ -8,13 +10,13 @@ ghost use Rattle.ntp.specs.AsAnswer.{ntp_answer};
 use clock::{NtpServerAddr, OptPort, Refusal};
 use text::Place;
 
-#[derive(Drop)]
+#[derive(Clone, Copy)]
 enum PortRead {
     Accepted(OptPort),
     Refused(Refusal),
 }
 
-#[derive(Drop)]
+#[derive(Clone, Copy)]
 pub enum NtpRead {
     Accepted(NtpServerAddr),
     Refused(Refusal),

@@ -55,17 +55,17 @@ more_digits s n d =
       value = value_append 0 s ((48 + n % 10) ∷ []) ∙ rw d.value (omega arith);
     }
 
-digits_in : (k n : ℕ) → n < 10 ^ suc k → Digits (digits_in (suc k) n) n
+digits_in_lem : (k n : ℕ) → n < 10 ^ suc k → Digits (digits_in (suc k) n) n
 unfolding digits_in
-digits_in zero n h =
+digits_in_lem zero n h =
     by_bool (ltb n 10) (λ e. simp e (one_digit n (ltb-true n 10 e))) (λ e. absurd (omega (arith, ltb-false n 10 e)))
-digits_in (suc k) n h =
+digits_in_lem (suc k) n h =
     by_bool (ltb n 10) (λ e. simp e (one_digit n (ltb-true n 10 e)))
-    (λ e. simp e (more_digits (digits_in (suc k) (n / 10)) n (digits_in k (n / 10) (omega (arith, rw pow-suc at h)))))
+    (λ e. simp e (more_digits (digits_in (suc k) (n / 10)) n (digits_in_lem k (n / 10) (omega (arith, rw pow-suc at h)))))
 
 pub decimal_digits : (n : ℕ) → n < 2 ^ 64 → Digits (decimal n) n
 unfolding decimal
-decimal_digits n h = digits_in 19 n (omega arith)
+decimal_digits n h = digits_in_lem 19 n (omega arith)
 
 -- digits read as their number
 pub no_plus : (s : List ℕ) → all_digits s ≡ true → after_plus s ≡ s

@@ -1,16 +1,18 @@
 // Numbers as text: a decimal number up to a limit, and the digits of base 16.
+#![tactic(auto)]
+
 ghost use Rattle.std.specs.Prelude.{◌≡◌, ◌+◌, ◌*◌, ◌-◌, ◌≤◌, min};
 ghost use Rattle.number.specs.Decimal.{digits_of, number_of};
 ghost use Rattle.number.specs.Hex.{hex_digit};
 
-#[derive(Drop)]
+#[derive(Clone, Copy)]
 pub enum Number {
     Value(u32),
     Refused(Reason),
 }
 
 // Why a text is no number: it is empty or a lone plus, a byte of it is no digit, or it is over the limit.
-#[derive(Drop)]
+#[derive(Clone, Copy)]
 pub enum Reason {
     Empty,
     Digit,

@@ -1,5 +1,7 @@
 // The open line of a text that comes in fragments: it stands at the front of lent memory, and what a fragment or the end of the text prints goes into
 // lent room. Where the room is too short nothing is done.
+#![tactic(auto)]
+
 ghost use Rattle.std.specs.Prelude.{◌≡◌, ◌^◌, ◌≤◌, leb, length};
 ghost use Rattle.report.specs.Lines.{without_cr, ended_from};
 ghost use Rattle.report.specs.Report.{printed, totals_text};
@@ -17,7 +19,7 @@ const MOST_KEPT: usize = 4098;
 pub const MOST_READ: usize = 4294967295;
 
 // How many bytes of the room were filled, the length of the open line then, and the totals of the lines before it.
-#[derive(Drop)]
+#[derive(Clone, Copy)]
 pub struct Advanced {
     pub filled: usize,
     pub len: usize,
@@ -25,21 +27,21 @@ pub struct Advanced {
 }
 
 // What was done; or nothing was, since the room is too short for what is printed.
-#[derive(Drop)]
+#[derive(Clone, Copy)]
 pub enum Advance {
     Made(Advanced),
     NoRoom,
 }
 
 // The place behind what was printed, and the totals so far.
-#[derive(Drop)]
+#[derive(Clone, Copy)]
 struct Progress {
     at: usize,
     totals: Totals,
 }
 
 // What a fragment leaves: the length of the open line, and how far it came.
-#[derive(Drop)]
+#[derive(Clone, Copy)]
 struct Ran {
     len: usize,
     past: Progress,

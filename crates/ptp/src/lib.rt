@@ -1,5 +1,7 @@
 // What follows `ptp=` in a ts-refclk value: the source, or the refusal of the first rule that is broken. Each text starts at the place `at` of the
 // whole value, and the places in it fit a usize.
+#![tactic(auto)]
+
 ghost use Rattle.std.specs.Prelude.{◌≡◌, ◌+◌, ◌^◌, ◌<◌, length};
 ghost use Rattle.meaning.specs.Domain.{bare};
 ghost use Rattle.meaning.specs.ReferenceClock.{version_of, server_of, ptp_of};
@@ -9,25 +11,25 @@ ghost use Rattle.ptp.specs.AsAnswer.{ptp_answer};
 use clock::{Eui64, OptDomain, Ptp, PtpDomain, PtpServer, PtpVersion, Refusal};
 use text::Place;
 
-#[derive(Drop)]
+#[derive(Clone, Copy)]
 enum VersionRead {
     Accepted(PtpVersion),
     Refused(Refusal),
 }
 
-#[derive(Drop)]
+#[derive(Clone, Copy)]
 enum DomainRead {
     Accepted(PtpDomain),
     Refused(Refusal),
 }
 
-#[derive(Drop)]
+#[derive(Clone, Copy)]
 enum ServerRead {
     Accepted(PtpServer),
     Refused(Refusal),
 }
 
-#[derive(Drop)]
+#[derive(Clone, Copy)]
 pub enum PtpRead {
     Accepted(Ptp),
     Refused(Refusal),

@@ -1,4 +1,6 @@
 // Numbers of four bytes in lent memory, the high byte first.
+#![tactic(auto)]
+
 ghost use Rattle.std.specs.Prelude.{◌≡◌};
 ghost use Rattle.room.specs.Put.{Put};
 ghost use Rattle.quads.specs.Quad.{quad, number_at};

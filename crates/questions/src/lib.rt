@@ -1,4 +1,6 @@
 // The two questions about ts-refclk values: whether two name the same clock, and which part names the clock that governs.
+#![tactic(auto)]
+
 ghost use Rattle.std.specs.Prelude.{◌≡◌, ◌≤◌, length};
 ghost use Rattle.equal.specs.Decides.{Decides};
 ghost use Rattle.questions.specs.SameClock.{SameClock};
@@ -9,14 +11,14 @@ use clock::{NtpServerAddr, PtpServer, ReferenceClock, ReferenceClockRead};
 use text::Place;
 
 // The level of a session text that a value stands at.
-#[derive(Drop)]
+#[derive(Clone, Copy)]
 pub enum Level {
     Session,
     Media,
 }
 
 // Which value governs, and the place in it of the part that names the clock.
-#[derive(Drop)]
+#[derive(Clone, Copy)]
 pub struct GoverningPlace {
     pub level: Level,
     pub place: Place,

@@ -1,4 +1,6 @@
 // What a ts-refclk value reads as: the reading rules in their order.
+#![tactic(auto)]
+
 ghost use Rattle.std.specs.Prelude.{◌≡◌, false};
 ghost use Rattle.text.specs.Word.{word, starts};
 ghost use Rattle.meaning.specs.Domain.{bare};

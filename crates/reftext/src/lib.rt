@@ -1,5 +1,7 @@
 // The text of a ts-refclk record. A local that holds a place in the room is named by what is put there. The bound in a contract is the sum of what is
 // put: the bytes of the words, 10 for a number, 23 for an EUI-64, and all of the value for each place.
+#![tactic(auto)]
+
 ghost use Rattle.std.specs.Prelude.{[], ◌∷◌, ◌++◌, ◌+◌, ◌*◌, length};
 ghost use Rattle.std.proofs.Math.Option.{some};
 ghost use Rattle.text.specs.Word.{word};

@@ -1,4 +1,6 @@
 // What is printed for one line, put at the front of lent room: the text of an accepted value, the refusal of a refused one, or a fixed word.
+#![tactic(auto)]
+
 ghost use Rattle.std.specs.Prelude.{◌≡◌, ◌≤◌, length};
 ghost use Rattle.clock.specs.declared.ReferenceClockRead.TheVariants as ref;
 ghost use Rattle.mediarecord.specs.declared.MediaClockSourceRead.TheVariants as media;

@@ -1,7 +1,8 @@
 // The report of a whole text: definitions and theorems (specs/, proofs/), and the types that they share with the code above.
+#![tactic(auto)]
 
 // What a line is: a clock line with an accepted value, or with a refused one; another line; or one over 4,096 bytes.
-#[derive(Drop)]
+#[derive(Clone, Copy)]
 pub enum Kind {
     Accepted,
     Refused,
@@ -10,7 +11,7 @@ pub enum Kind {
 }
 
 // How many lines there are, in all and of each kind.
-#[derive(Drop)]
+#[derive(Clone, Copy)]
 pub struct Totals {
     pub lines: u32,
     pub ok: u32,

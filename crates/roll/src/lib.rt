@@ -1,4 +1,6 @@
 // The roll of a session text: each line is taken into a census of the text's streams, and what could not be counted is counted beside it.
+#![tactic(auto)]
+
 ghost use Rattle.std.specs.Prelude.{◌≡◌};
 ghost use Rattle.roll.specs.Taking.{fresh_roll, uncounted_by, with_line, TakesStream, TakesLine};
 
@@ -7,7 +9,7 @@ use counts::Census;
 use streams::Verdict;
 
 // The census of the streams so far; how many lines and how many streams there were, and how many of the streams could not be counted.
-#[derive(Drop)]
+#[derive(Clone, Copy)]
 pub struct Roll {
     pub census: Census,
     pub lines: u32,

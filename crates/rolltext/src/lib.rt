@@ -1,4 +1,6 @@
 // What is printed of a roll: a line for each clock, a line for each domain number that has streams, and the totals.
+#![tactic(auto)]
+
 ghost use Rattle.std.specs.Prelude.{◌≡◌, ◌++◌, ◌*◌, ◌≤◌, length};
 ghost use Rattle.number.specs.Decimal.{decimal};
 ghost use Rattle.clock.specs.declared.ReferenceClockRead.TheVariants.{Accepted};

@@ -1,6 +1,8 @@
 // Texts put into lent room, each from a place on, with the place behind it as the answer. A byte whose place lies behind the room's end is
 // counted and not stored, so a text is measured by putting it into no room. Counting stops at the last place that there is, which lies behind
 // the end of every room: no place overflows, and no byte is stored at a wrong one.
+#![tactic(auto)]
+
 ghost use Rattle.std.specs.Prelude.{◌≡◌, ◌+◌, ◌≤◌, [], ◌∷◌, length};
 ghost use Rattle.std.proofs.lemmas.List.Edits.{sets};
 ghost use Rattle.text.specs.Place.{bytes_at};

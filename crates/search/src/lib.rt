@@ -1,4 +1,6 @@
 // A byte or a mark of two bytes is looked for in a text.
+#![tactic(auto)]
+
 ghost use Rattle.std.specs.Prelude.{◌≡◌, ◌+◌, ◌≤◌, ◌<◌, min, length, drop};
 ghost use Rattle.text.specs.Find.{before, before_pair, starts_pair, through_last};
 ghost use Rattle.search.specs.Private.Passing.{Passes, Nears};

@@ -1,4 +1,6 @@
 // The setters in the Rust's own form: each alters the record that is lent to it, by the method of `clock` that gives the record anew.
+#![tactic(auto)]
+
 ghost use Rattle.std.specs.Prelude.{◌≡◌};
 ghost use Rattle.clock.specs.Setters.{with_source_value};
 ghost use Rattle.mediarecord.specs.Setters.{with_id, with_media_value, with_offset, with_rate, with_src};

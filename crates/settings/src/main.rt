@@ -1,4 +1,6 @@
 // Lends records to each setter, and prints how each is written before and after every call.
+#![tactic(auto)]
+
 ghost use Rattle.std.specs.Prelude.{◌≡◌};
 ghost use Rattle.clock.specs.Setters.{with_source_value};
 ghost use Rattle.mediarecord.specs.Setters.{with_id, with_media_value, with_offset, with_rate, with_src};

@@ -1,6 +1,8 @@
 // The slots of a census in lent memory, 1,036 bytes each: how many streams a clock has, its fingerprint, and the value that it was first counted with,
 // as it came. A slot without streams is free. Memory of any contents and any length is answered for: what lies behind its end counts as 0, and is not
 // stored.
+#![tactic(auto)]
+
 ghost use Rattle.std.specs.Prelude.{◌≡◌, not, ◌+◌, ◌*◌, ◌≤◌, length, take};
 ghost use Rattle.std.proofs.lemmas.List.Edits.{sets};
 ghost use Rattle.text.specs.Place.{PartAt};

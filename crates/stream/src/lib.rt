@@ -1,4 +1,6 @@
 // What follows `IEEE1722=` in a mediaclk value: the EUI-64 of a stream.
+#![tactic(auto)]
+
 ghost use Rattle.std.specs.Prelude.{◌≡◌};
 ghost use Rattle.meaning.specs.MediaClock.{broken_number, stream_of};
 ghost use Rattle.stream.specs.AsAnswer.{stream_answer};
@@ -6,7 +8,7 @@ ghost use Rattle.stream.specs.AsAnswer.{stream_answer};
 use clock::{Eui64, Refusal};
 use eui64::BrokenRule;
 
-#[derive(Drop)]
+#[derive(Clone, Copy)]
 pub enum StreamRead {
     Accepted(Eui64),
     Refused(Refusal),

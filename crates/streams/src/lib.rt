@@ -1,4 +1,6 @@
 // The census of streams as a plain list of them: what every call and question answers, in specs/, and the types and limits that the code above it shares.
+#![tactic(auto)]
+
 ghost use Rattle.std.specs.Prelude.{◌≡◌};
 ghost use Rattle.streams.specs.Calls.{refusal_number};
 
@@ -12,7 +14,7 @@ pub const LEAST_MEMORY: usize = 270000;
 pub const MOST_STREAMS: u32 = 4294967295;
 
 // Why a call is refused: the lent memory is too short; there are as many streams as may be; as many clocks; nothing there that is named.
-#[derive(Drop)]
+#[derive(Clone, Copy)]
 pub enum Uncounted {
     NoMemory,
     TotalFull,
@@ -21,7 +23,7 @@ pub enum Uncounted {
 }
 
 // What a call answers.
-#[derive(Drop)]
+#[derive(Clone, Copy)]
 pub enum Verdict {
     Done,
     Refused(Uncounted),

@@ -10,6 +10,6 @@ pointer_eq a b e f = λ i. (e i, f i)
 pub part_settled : PartSettled
 part_settled s p q r a b =
     record {
-      ptr = pointer_eq q.ptr r.ptr (a.block ∙ sym b.block) (a.start ∙ sym b.start);
+      ptr = pointer_eq q.ref_ptr r.ref_ptr (a.block ∙ sym b.block) (a.start ∙ sym b.start);
       bytes = a.bytes ∙ sym b.bytes;
     }

@@ -17,14 +17,14 @@ Lent = Bor (List ℕ)
 
 -- r is the part of s at the place p: the same memory, from that place on, and the bytes there
 pub record PartAt (s : Lent) (p : Place) (r : Lent) : Type 0 where
-  pub block : r.ptr.0 ≡ s.ptr.0
-  pub start : r.ptr.1 ≡ s.ref_ptr.1 + min p.start (length s.now)
+  pub block : r.ref_ptr.0 ≡ s.ref_ptr.0
+  pub start : r.ref_ptr.1 ≡ s.ref_ptr.1 + min p.start (length s.now)
   pub bytes : r.now ≡ bytes_at p s.now
 
 -- one part: the same block, the same start in it, and the same bytes. What a program cannot see is left open: the ghost name, under which the proofs
 -- follow the bytes behind a slice
 pub record OnePart (q r : Lent) : Type 0 where
-  pub ptr : q.ptr ≡ r.ptr
+  pub ptr : q.ref_ptr ≡ r.ref_ptr
   pub bytes : q.now ≡ r.now
 
 -- so much is settled by a place: two answers at it are one part. `proofs/Parts.antt` proves it

@@ -1,10 +1,12 @@
 // Texts as bytes: a text is compared with a word, and a part is taken at its place.
+#![tactic(auto)]
+
 ghost use Rattle.std.specs.Prelude.{◌≡◌, min};
 ghost use Rattle.text.specs.Word.{same, starts, ends_in};
 ghost use Rattle.text.specs.Place.{PartAt, bytes_at};
 
 // Where a part of a value lies in it: what a record holds in place of a text.
-#[derive(Drop)]
+#[derive(Clone, Copy)]
 pub struct Place {
     pub start: usize,
     pub len: usize,

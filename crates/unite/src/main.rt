@@ -3,6 +3,8 @@
 // high byte first; then 1,036 bytes for each slot. For each one that is read the lines of its clocks and domain numbers and its sums are printed as it
 // came, and then as it is with its clocks joined. One that ends early or has over 255 slots prints `cut`, and nothing more is read. The last line has
 // the number of those that were read and all their streams before and after. Of a longer input the first 4,294,967,295 are read.
+#![tactic(auto)]
+
 ghost use Rattle.std.specs.Prelude.{◌≡◌, ◌≤◌, length};
 
 use counts::Census;
@@ -22,7 +24,7 @@ const SLOT_SIZE: usize = 1036;
 const MOST: u64 = 18446744073709551615;
 
 // A census was read, whose slots stand at the front of the memory; or none; or one that is cut; or the input could not be read.
-#[derive(Drop)]
+#[derive(Clone, Copy)]
 enum Found {
     Kept,
     End,
@@ -31,14 +33,14 @@ enum Found {
 }
 
 // Beside it the census.
-#[derive(Drop)]
+#[derive(Clone, Copy)]
 struct Read {
     found: Found,
     census: Census,
 }
 
 // All streams of a census before and after; or they could not be printed.
-#[derive(Drop)]
+#[derive(Clone, Copy)]
 struct Sums {
     before: u64,
     after: u64,

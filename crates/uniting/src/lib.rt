@@ -1,4 +1,6 @@
 // The clocks of a census that are one are joined: a census that was filled under a rule that told more clocks apart is one under today's then.
+#![tactic(auto)]
+
 ghost use Rattle.std.specs.Prelude.{◌≡◌};
 ghost use Rattle.uniting.specs.Uniting.{reprinted, United, Unites};
 ghost use Rattle.uniting.specs.Private.Step.{StepFor, UnitesSlot};
@@ -8,7 +10,7 @@ use counts::{Called, Census};
 use streams::{LEAST_MEMORY, Uncounted};
 
 // What is to be done with a slot: nothing; its streams go to another slot; it gets this fingerprint.
-#[derive(Drop)]
+#[derive(Clone, Copy)]
 enum Step {
     Stay,
     Move(u16),

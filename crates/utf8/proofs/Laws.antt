@@ -13,7 +13,7 @@ use borrow.Author.Tests.{le-leb, lt-leb, leb-false, eq-eqb, ne_eqb}
 use Rattle.text.proofs.Left.{rest, rest_is, next_byte, none_left, Passed, passed_none, passed_all, passed_more, any_of, passed_run}
 use Rattle.abnf.specs.Rule.{Rule, nothing, range, ◌then◌, ◌then_many◌, longest}
 use Rattle.abnf.proofs.Rules.{range_then}
-use Rattle.abnf.proofs.Many.{many_none, many_cons, then_many, range_many}
+use Rattle.abnf.proofs.Many.{many_none, many_cons, then_many_lem, range_many}
 use Rattle.abnf.proofs.Longest.{furthest, furthest_more, furthest_end, furthest_none, furthest_on, longest_all}
 use Rattle.utf8.specs.declared.Lead.{Lead}
 use Rattle.utf8.specs.declared.Lead.TheVariants.{Never, Starts}
@@ -33,7 +33,7 @@ onward_cons zero low high x s h = absurd (omega arith)
 onward_cons (suc zero) low high x s h = range_many utf8_char low high x s
 onward_cons (suc (suc n)) low high x s h =
     rw (sub-one (suc (suc n)))
-    (then_many utf8_char (range low high) (tails (suc n) 0x80 0xBF) (x ∷ s)
+    (then_many_lem utf8_char (range low high) (tails (suc n) 0x80 0xBF) (x ∷ s)
     ∙ range_then low high (onward (suc n) 0x80 0xBF) x s)
 
 onward_nil : (left low high : ℕ) → 0 < left → onward left low high [] ≡ false

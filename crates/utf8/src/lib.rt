@@ -1,18 +1,20 @@
 // Whether bytes are well-formed UTF-8 (RFC 3629), and where not.
+#![tactic(auto)]
+
 ghost use Rattle.std.specs.Prelude.{◌≡◌, List, ◌∷◌, ℕ};
 ghost use Rattle.utf8.specs.Utf8.{utf8_char, utf8_of};
 ghost use Rattle.utf8.specs.Private.Lead.{goes_on};
 ghost use Rattle.utf8.specs.Private.Passes.{Passes};
 
 // Well-formed, or the place where the first ill-formed sequence starts.
-#[derive(Drop)]
+#[derive(Clone, Copy)]
 pub enum Utf8 {
     Well,
     Ill(usize),
 }
 
 // What a first byte asks of the bytes behind it: how many there are, and the range of the first of them, from its least to its greatest.
-#[derive(Drop)]
+#[derive(Clone, Copy)]
 enum Lead {
     Never,
     Starts(usize, u8, u8),

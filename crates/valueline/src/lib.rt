@@ -1,4 +1,6 @@
 // The line of a value, put at the front of lent room: its record and the text that is written of it, or its refusal.
+#![tactic(auto)]
+
 ghost use Rattle.std.specs.Prelude.{◌≡◌, ◌≤◌, length};
 ghost use Rattle.clock.specs.declared.ReferenceClockRead.TheVariants as ref;
 ghost use Rattle.mediarecord.specs.declared.MediaClockSourceRead.TheVariants as read;

@@ -1,4 +1,6 @@
 // A stream is withdrawn by its value.
+#![tactic(auto)]
+
 ghost use Rattle.std.specs.Prelude.{◌≡◌, []};
 ghost use Rattle.counts.specs.Outcome.{Does, called_with};
 ghost use Rattle.withdrawing.specs.Withdrawing.{withdraw_known, withdraw_refused, Withdraws};

@@ -1,5 +1,7 @@
 // The two writers: the text of a record, over the value that its places point into, is put into lent room. A value over 1,024 bytes is refused,
 // then a place that lies outside the value, then a room that is too short; the room is not touched where the answer is a refusal.
+#![tactic(auto)]
+
 ghost use Rattle.std.specs.Prelude.{◌≡◌, ◌≤◌, length};
 ghost use Rattle.meaning.specs.Text.{reference_clock_text, media_clock_source_text};
 ghost use Rattle.meaning.specs.Inside.{reference_clock_inside, media_clock_source_inside};

@@ -1,0 +1,12 @@
+-- `search::pass_by_eights` meets its contract: none of the bytes passed is b.
+use Rattle.text.proofs.Left.{Passed}
+use Rattle.text.specs.Find.{before}
+use lib.ListN.{length}
+use Prim.Native.Nat.{◌-◌}
+use Rattle.search.proofs.pass_by_eights.Given as goal
+
+abbrev pub invariant-loop-i : goal.invariant-loop-i
+invariant-loop-i l = Passed (before l.b) l.s l.i
+
+abbrev pub decreases-loop-i : goal.decreases-loop-i
+decreases-loop-i l = length l.s - l.i
