@@ -19,7 +19,7 @@ pub loop-i-smaller : goal.loop-i-smaller
 loop-i-smaller c = search (rules, laws)
 
 pub loop-i-preserved : goal.loop-i-preserved
-loop-i-preserved c = search (rules, laws)
+loop-i-preserved c = search laws
 
 pub returns : goal.returns
 returns c = search (rules, laws)

@@ -1,0 +1,9 @@
+-- `digits::put_hex_u64` meets its contract: the digits of n are those of what is left and then those that are made.
+use Rattle.digits.proofs.Laws.{InHex}
+use Rattle.digits.proofs.put_hex_u64.Given as goal
+
+abbrev pub invariant-loop-first : goal.invariant-loop-first
+invariant-loop-first l = InHex l.n l.digits l.first l.left
+
+abbrev pub decreases-loop-first : goal.decreases-loop-first
+decreases-loop-first l = l.first

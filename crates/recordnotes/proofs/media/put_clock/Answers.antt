@@ -1,0 +1,16 @@
+-- `recordnotes::media::put_clock` meets its contract: a case each.
+use Rattle.recordnotes.proofs.MediaLaws.{laws}
+use Rattle.std.proofs.Common.{rules}
+use Rattle.recordnotes.proofs.media.put_clock.Goals as goal
+
+pub returns-in-Sender : goal.returns-in-Sender
+returns-in-Sender c = search (rules, laws)
+
+pub returns-in-Direct : goal.returns-in-Direct
+returns-in-Direct c = search (rules, laws)
+
+pub returns-in-Ieee1722StreamId : goal.returns-in-Ieee1722StreamId
+returns-in-Ieee1722StreamId c = search (rules, laws)
+
+pub returns-in-Ext : goal.returns-in-Ext
+returns-in-Ext c = search (rules, laws)
