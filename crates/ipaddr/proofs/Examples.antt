@@ -51,12 +51,13 @@ four_quick : ipv4address ≡ quick_octets 3
 four_quick = fun_ext (λ s. sym (four_octets s)) ∙ octets_quick 3
 
 groups_quick : (four : Bool) (n : ℕ) → groups four n ≡ quick_groups four n
-groups_quick four zero = unfold groups quick_groups in refl
-groups_quick four (suc zero) = unfold groups quick_groups in refl
+unfolding quick_groups
+groups_quick four zero = unfold groups in refl
+groups_quick four (suc zero) = unfold groups in refl
 groups_quick four (suc (suc n)) = fun_ext (go (groups_quick four (suc n)))
   where
     go : groups four (suc n) ≡ quick_groups four (suc n) → (s : List ℕ) → groups four (suc (suc n)) s ≡ quick_groups four (suc (suc n)) s
-    go e s = groups_cut four n s ∙ unfold quick_groups in rw (e, four_quick)
+    go e s = groups_cut four n s ∙ rw (e, four_quick)
 
 six_quick : ipv6address ≡ quick_six
 six_quick = fun_ext go

@@ -7,6 +7,7 @@ use mathlib.Core.Path.{◌≡◌, ◌∙◌}
 use mathlib.Core.Logic.{⊎_elim}
 use Rattle.std.proofs.Common.{rules}
 use Rattle.utf8.proofs.check_utf8.Goals as goal
+use Rattle.utf8.proofs.check_utf8.Goals.{Joined-s-at, then-s-at, else-s-at+in_default, else-s-at+in-Starts+then-loop-left-test+then-s-next, else-s-at+in-Starts+then-loop-left-test+else-s-next+then-b-low, else-s-at+in-Starts+then-loop-left-test+else-s-next+else-b-low+then-high-b}
 
 pub sequences-init : goal.sequences-init
 sequences-init c = search (rules, laws)
@@ -60,18 +61,18 @@ pub sequences-preserved : goal.sequences-preserved
 sequences-preserved c = search (rules, laws)
 
 -- by whichever `break` the loop was left, it yielded the length of the longest well-formed front
-found-is : (c : tie.Joined1 invariant-loop decreases-loop invariant-sequences decreases-sequences)
-    → c.if-s-at.found ≡ longest utf8_octets c.args.s.now
-found-is c =
-    ⊎_elim (λ w. w.1 ∙ search (rules, laws))
-    (⊎_elim (λ w. w.5 ∙ search (rules, laws))
-    (⊎_elim (λ w. w.9 ∙ tails_short w.6.inv w.7.taken w.8.taken)
-    (⊎_elim (λ w. w.11 ∙ tails_below w.6.inv w.7.taken w.8.left w.10.taken)
-    (λ w. w.12 ∙ tails_above w.6.inv w.7.taken w.8.left w.11.taken))))
-    c.if-s-at.branch
+found_is : (c : Joined-s-at) → c.if-s-at.found ≡ longest utf8_octets c.args.s.now
+found_is c =
+    elim c.if-s-at.branch [
+      | then-s-at w ↦ w.found-is ∙ search laws
+      | else-s-at+in_default w ↦ w.found-is ∙ search laws
+      | else-s-at+in-Starts+then-loop-left-test+then-s-next w ↦ w.found-is ∙ tails_short w.loop-left.invariant w.loop-left-test.true w.if-s-next.true
+      | else-s-at+in-Starts+then-loop-left-test+else-s-next+then-b-low w ↦ w.found-is ∙ tails_below w.loop-left.invariant w.loop-left-test.true w.if-s-next.false w.if-b-low.true
+      | else-s-at+in-Starts+then-loop-left-test+else-s-next+else-b-low+then-high-b w ↦ w.found-is ∙ tails_above w.loop-left.invariant w.loop-left-test.true w.if-s-next.false w.if-high-b.true
+    ]
 
 pub returns-then-found-s : goal.returns-then-found-s
-returns-then-found-s c = check_well _ _ (found-is c) c.if-found-s.true
+returns-then-found-s c = check_well _ _ (found_is (goal.at.returns-then-found-s c).Joined-s-at) c.if-found-s.true
 
 pub returns-else-found-s : goal.returns-else-found-s
-returns-else-found-s c = check_ill _ _ (found-is c) c.if-found-s.false
+returns-else-found-s c = check_ill _ _ (found_is (goal.at.returns-else-found-s c).Joined-s-at) c.if-found-s.false
