@@ -1,0 +1,28 @@
+-- `hostprint::mix_words` meets its contract: what is left is mixed into what was mixed so far.
+use Rattle.hostprint.proofs.Laws.{laws}
+use Rattle.std.proofs.Common.{rules}
+use Rattle.hostprint.proofs.mix_words.Goals as goal
+
+pub loop-i-init : goal.loop-i-init
+loop-i-init c = search (rules, laws)
+
+pub offset_bounds-words-i : goal.offset_bounds-words-i
+offset_bounds-words-i c = search (rules, laws)
+
+pub bounds-words-i : goal.bounds-words-i
+bounds-words-i c = search (rules, laws)
+
+pub mix_word-so_far-requires : goal.mix_word-so_far-requires
+mix_word-so_far-requires c = search (rules, laws)
+
+pub overflow_add-i : goal.overflow_add-i
+overflow_add-i c = search (rules, laws)
+
+pub loop-i-smaller : goal.loop-i-smaller
+loop-i-smaller c = search (rules, laws)
+
+pub loop-i-preserved : goal.loop-i-preserved
+loop-i-preserved c = search (rules, laws)
+
+pub returns : goal.returns
+returns c = search (rules, laws)

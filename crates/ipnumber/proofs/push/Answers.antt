@@ -1,0 +1,13 @@
+-- `ipnumber::push` meets its contract: a law for each way out.
+use Rattle.ipnumber.proofs.Held.{laws}
+use Rattle.std.proofs.Common.{rules}
+use Rattle.ipnumber.proofs.push.Goals as goal
+
+pub returns-then-x-gt65535 : goal.returns-then-x-gt65535
+returns-then-x-gt65535 c = search (rules, laws)
+
+pub returns-then-at-gt7 : goal.returns-then-at-gt7
+returns-then-at-gt7 c = search (rules, laws)
+
+pub returns : goal.returns
+returns c = search (rules, laws)

@@ -1,0 +1,10 @@
+-- `mediatext::put_rate` meets its contract: what each arm puts, one behind the other, is the text of that case.
+use Rattle.mediatext.proofs.Laws.{laws}
+use Rattle.std.proofs.Common.{rules}
+use Rattle.mediatext.proofs.put_rate.Goals as goal
+
+pub returns-in-NoRate : goal.returns-in-NoRate
+returns-in-NoRate c = search (rules, laws)
+
+pub returns-in-SomeRate : goal.returns-in-SomeRate
+returns-in-SomeRate c = search (rules, laws)

@@ -1,0 +1,19 @@
+-- `ptp::read_version` meets its contract: one law for each way out, in the order of the tests.
+use Rattle.ptp.proofs.Laws.{laws}
+use Rattle.std.proofs.Common.{rules}
+use Rattle.ptp.proofs.read_version.Goals as goal
+
+pub returns-then-n-eq0 : goal.returns-then-n-eq0
+returns-then-n-eq0 c = search (rules, laws)
+
+pub returns-then-is_word : goal.returns-then-is_word
+returns-then-is_word c = search (rules, laws)
+
+pub returns-then-is_word-2 : goal.returns-then-is_word-2
+returns-then-is_word-2 c = search (rules, laws)
+
+pub returns-then-is_word-3 : goal.returns-then-is_word-3
+returns-then-is_word-3 c = search (rules, laws)
+
+pub returns : goal.returns
+returns c = search (rules, laws)
