@@ -9,40 +9,57 @@ use clock::ClockSourceExt;
 use mediarecord::{Direct, MediaClockExt, MediaClockId, MediaClockSource, Rate};
 use text::Place;
 
+// Whatever the record, the value and the method: what the method gives of the lent record is left behind the reference.
+fn setter<R: Copy, V, F: FnOnce(R, V) -> R>(lent: &mut R, method: F, value: V)
+    requires { F.pre method lent.old value }
+    ensures { F.post method lent.old value lent.new }
+{
+    *lent = method(*lent, value);
+}
+
+// Whatever the record, the value and the setter: a caller that lends its record and returns it gives what the setter leaves of it.
+fn lender<R, V, F: FnOnce(&mut R, V)>(mut lent: R, setter: F, value: V) -> R
+    requires { (at : _) → at.now ≡ lent → F.pre setter at value }
+    ensures { (at : _) × (left : _) × (at.now ≡ lent) × F.post setter at value tt left × (left.now ≡ result) }
+{
+    setter(&mut lent, value);
+    lent
+}
+
 // `ClockSourceExt::set_value` of the Rust.
 pub fn set_source_value(ext: &mut ClockSourceExt, value: Place)
     ensures { ext.new ≡ with_source_value ext.old value }
 {
-    *ext = ClockSourceExt::set_value(*ext, value);
+    setter(ext, ClockSourceExt::set_value, value);
 }
 
 pub fn set_id(source: &mut MediaClockSource, id: MediaClockId)
     ensures { source.new ≡ with_id source.old id }
 {
-    *source = MediaClockSource::set_id(*source, id);
+    setter(source, MediaClockSource::set_id, id);
 }
 
 pub fn set_src_prefix(id: &mut MediaClockId, src: bool)
     ensures { id.new ≡ with_src id.old src }
 {
-    *id = MediaClockId::set_src_prefix(*id, src);
+    setter(id, MediaClockId::set_src_prefix, src);
 }
 
 pub fn set_offset(direct: &mut Direct, offset: u32)
     ensures { direct.new ≡ with_offset direct.old offset }
 {
-    *direct = Direct::set_offset(*direct, offset);
+    setter(direct, Direct::set_offset, offset);
 }
 
 pub fn set_rate(direct: &mut Direct, rate: Rate)
     ensures { direct.new ≡ with_rate direct.old rate }
 {
-    *direct = Direct::set_rate(*direct, rate);
+    setter(direct, Direct::set_rate, rate);
 }
 
 // `MediaClockExt::set_value` of the Rust.
 pub fn set_media_value(ext: &mut MediaClockExt, value: Place)
     ensures { ext.new ≡ with_media_value ext.old value }
 {
-    *ext = MediaClockExt::set_value(*ext, value);
+    setter(ext, MediaClockExt::set_value, value);
 }
