@@ -6,7 +6,7 @@ use mathlib.Core.Path.{◌≡◌, refl, sym, ap, ◌∙◌, fun_ext}
 use mathlib.Core.Bool.{Bool, true, false, ◌&&◌, and-true, and-false}
 use mathlib.Core.List.{List, [], ◌∷◌, ◌++◌, map}
 use native.Mathlib.Omega.{arith}
-use lib.ListN.{length, take, drop, take-append-drop, length-append, length_map}
+use lib.ListN.{length, take, drop, take-append-drop, length-append, length-map}
 use lib.Seq.{take_at, drop_at}
 use Rattle.text.specs.Word.{word}
 use Rattle.text.proofs.Bools.{clash, both, both_ways, and_left, and_right}
@@ -94,7 +94,7 @@ front_is n p q f = fun_ext (λ s. both_ways ((p then q) s) (p (take n s) && q (d
 -- words, and an EUI-64
 fixed_word : (w : String) → Fixed (length (word w)) (quoted published w)
 unfolding quoted only_in
-fixed_word w s h = sym (length_map s small) ∙ ap length (same_eq (map small s) (map small (word w)) h) ∙ length_map (word w) small
+fixed_word w s h = sym (length-map s small) ∙ ap length (same_eq (map small s) (map small (word w)) h) ∙ length-map (word w) small
 
 fixed_hexdig : Fixed 1 hexdig
 unfolding hexdig range ◌or◌

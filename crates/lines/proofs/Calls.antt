@@ -1,68 +1,74 @@
--- Calls one after another print what a reader prints that takes the same fragments, and so the report; a refused call changes nothing. Assumes nothing.
-use Prim.Native.Nat.{ℕ}
+-- Calls one after another print what a reader prints that takes the same fragments, and so the report. Assumes nothing.
+use Prim.Native.Nat.{ℕ, ◌+◌}
 use mathlib.Core.Path.{◌≡◌, refl, sym, ap, ◌∙◌}
 use mathlib.Core.List.{List, [], ◌++◌}
 use mathlib.Core.Bool.{true}
-use mathlib.Core.Option.{Option, none, some}
+use lib.Dec.{leb, ltb}
 use lib.ListN.{length, take, drop}
 use lib.Seq.{take_at}
+use Rattle.text.proofs.Bools.{by_bool, clash}
 use Rattle.report.specs.Lines.{ended_from, open_from}
 use Rattle.report.specs.Report.{totals_of}
-use Rattle.report.specs.Reader.{Reader, reader_of, feed_text, closed, session}
+use Rattle.report.specs.Reader.{Reader, reader_of, feed_text, fed, close_text, session}
 use Rattle.report.proofs.Whole.{any_cutting}
 use Rattle.lines.specs.declared.State.{State}
-use Rattle.lines.specs.declared.Fed.{Fed}
-use Rattle.lines.specs.declared.Unfed.{Unfed}
 use Rattle.lines.specs.declared.Filling.{Filling}
 use Rattle.lines.specs.declared.Filling.TheVariants.{Filled, Refused}
 use Rattle.lines.specs.View.{view, state_of}
-use Rattle.lines.specs.Number.{unfed_number, number_in, first_of}
-use Rattle.lines.specs.Call.{against_feeding, against_closing, Does}
-use Rattle.lines.specs.Calls.{Calls, last, more, unfed, unclosed, PrintTheReport, Unchanged, RefusedFeedingKeeps, RefusedClosingKeeps, ClosedForGood}
+use Rattle.lines.specs.Call.{Outcome, prints, refuses, feedOutcome, closeOutcome, accepts, fillingOf, roomOf}
+use Rattle.lines.specs.Calls.{Calls, last, more, PrintTheReport}
+
+-- a call that filled n bytes printed a text, which stands at the room's front
+record Fills (o : Outcome) (room : List ℕ) (n : ℕ) : Type 0 where
+  text : List ℕ
+  is : o ≡ prints text
+  accepted : accepts o (length room) ≡ true
+  front : take n (roomOf o room) ≡ text
 
 abbrev bytes_of : Filling → ℕ
 bytes_of (Filled n) = n
 bytes_of (Refused why) = 0
 
-module _ {t : List ℕ} {o : Option ℕ} {next : Reader} {kept : List ℕ} {state : State} {memory room : List ℕ} {r : Fed} {memory₁ room₁ : List ℕ}
-    (w : Does t o next kept state memory room r memory₁ room₁) where
-  -- a call that filled n bytes owed no number, and its text stands at the room's front
-  none_owed : (n : ℕ) → r.filling ≡ Filled n → o ≡ none
-  none_owed n e = sym w.number ∙ ap number_in e
+fills : (o : Outcome) (room : List ℕ) (n : ℕ) → fillingOf o (length room) ≡ Filled n → Fills o room n
+unfolding fillingOf roomOf accepts
+fills (refuses why) room n e = clash (cc)
+fills (prints t) room n e =
+    by_bool (leb (length t) (length room))
+    (λ f.
+    let k : length t ≡ n = ap bytes_of (simp f at e) in
+    record {
+      text = t;
+      is = refl;
+      accepted = f;
+      front = simp f (ap (λ (j : ℕ). take j (t ++ drop (length t) room)) (sym k) ∙ take_at t (drop (length t) room) (length t) refl);
+    })
+    (λ f. clash (cc (simp f at e)))
 
-  front : (n : ℕ) → r.filling ≡ Filled n → take n room₁ ≡ t
-  front n e =
-      let f = none_owed n e in
-      let k : length t ≡ n = ap bytes_of (sym (w.filled f) ∙ e) in
-      ap (take n) (rw f at w.room) ∙ ap (λ (j : ℕ). take j (t ++ drop (length t) room)) (sym k) ∙ take_at t (drop (length t) room) (length t) refl
+abbrev textIn : Outcome → List ℕ
+textIn (prints t) = t
+textIn (refuses why) = []
 
-  next_reader : (n : ℕ) → r.filling ≡ Filled n → view r.state memory₁ ≡ next
-  next_reader n e = rw (none_owed n e) at w.reader
+close-is : (r : Reader) (t : List ℕ) → closeOutcome r ≡ prints t → t ≡ close_text r
+unfolding closeOutcome
+close-is r t e = by_bool r.closed (λ f. clash (cc (simp f at e))) (λ f. sym (ap textIn (simp f at e)))
 
-  -- a call that was refused owed a number, and nothing changed
-  unchanged : (why : Unfed) → r.filling ≡ Refused why → Unchanged state memory room r memory₁ room₁
-  unchanged why e =
-      let f : o ≡ some (unfed_number why) = sym w.number ∙ ap number_in e in
-      record { state = rw f at w.state; memory = rw f at w.memory; room = rw f at w.room }
-
-pub refused_feeding_keeps : RefusedFeedingKeeps
-refused_feeding_keeps state memory s room r memory₁ room₁ why w e = unchanged w why e
-
-pub refused_closing_keeps : RefusedClosingKeeps
-refused_closing_keeps state memory room r room₁ why w e = unchanged w why e
+feed-is : (r : Reader) (s t : List ℕ) → feedOutcome r s ≡ prints t → t ≡ feed_text r s
+unfolding feedOutcome
+feed-is r s t e =
+    by_bool r.closed (λ f. clash (cc (simp f at e)))
+    (λ f. by_bool (ltb 4294967295 (r.read + length s)) (λ g. clash (cc (simp (f, g) at e))) (λ g. sym (ap textIn (simp (f, g) at e))))
 
 session_printed : {state : State} {memory : List ℕ} {fragments : List (List ℕ)} {printed : List ℕ} → Calls state memory fragments printed
     → printed ≡ session (view state memory) fragments
 unfolding session
-session_printed (last state memory room r after n w e) = front w n e
+session_printed (last state memory room r after n w e) =
+    let f = fills (closeOutcome (view state memory)) room n (sym w.filling ∙ e) in
+    ap (take n) w.room ∙ f.front ∙ close-is (view state memory) f.text f.is
 session_printed (more state memory s room r kept after n fragments printed w e calls) =
-    ap (λ (t : List ℕ). t ++ printed) (front w n e)
-    ∙ ap (λ (t : List ℕ). feed_text (view state memory) s ++ t) (session_printed calls ∙ ap (λ (q : Reader). session q fragments) (next_reader w n e))
-session_printed (unfed state memory s room r kept after why fragments printed w e calls) =
-    let u = unchanged w why e in
-    session_printed calls ∙ ap (λ (q : Reader). session q fragments) (cc (u.state, u.memory))
-session_printed (unclosed state memory room r after why fragments printed w e calls) =
-    session_printed calls ∙ ap (λ (q : State). session (view q memory) fragments) (unchanged w why e).state
+    let f = fills (feedOutcome (view state memory) s) room n (sym w.filling ∙ e) in
+    let next : view r.state kept ≡ fed (view state memory) s = simp f.accepted at w.reader in
+    ap (λ (t : List ℕ). t ++ printed) (ap (take n) w.room ∙ f.front ∙ feed-is (view state memory) s f.text f.is)
+    ∙ ap (λ (t : List ℕ). feed_text (view state memory) s ++ t) (session_printed calls ∙ ap (λ (q : Reader). session q fragments) next)
 
 first : (memory : List ℕ) → view (state_of (reader_of [])) memory ≡ reader_of []
 unfolding reader_of open_from ended_from totals_of
@@ -71,10 +77,3 @@ first memory = refl
 pub print_the_report : PrintTheReport
 print_the_report memory fragments printed h calls =
     session_printed calls ∙ ap (λ (r : Reader). session r fragments) (first memory) ∙ any_cutting fragments h
-
--- a reader that was closed owes 28, whatever is asked of it
-pub closed_for_good : ClosedForGood
-unfolding first_of unfed_number against_feeding against_closing closed
-closed_for_good state memory room r room₁ n w e memory' s room' next memory₂ room₂ =
-    let c : r.state.closed ≡ true = ap (λ (q : Reader). q.closed) (next_reader w n e) in
-    (λ x. x.number ∙ simp c, λ x. x.number ∙ simp c)

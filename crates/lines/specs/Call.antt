@@ -1,55 +1,64 @@
 -- What a call answers, and what it leaves.
-use Rattle.std.specs.Prelude.{ℕ, ◌+◌, ◌≡◌, List, ◌++◌, false, ltb, length, drop}
-use Rattle.std.proofs.Math.Option.{Option, none, some}
+use Rattle.std.specs.Prelude.{ℕ, ◌+◌, ◌≡◌, List, ◌++◌, Bool, false, cond, leb, ltb, length, drop}
 use Rattle.report.specs.Reader.{Reader, feed_text, fed, close_text, closed}
-use Rattle.openline.specs.Memory.{memory_after}
 use Rattle.lines.specs.declared.State.{State}
 use Rattle.lines.specs.declared.Fed.{Fed}
-use Rattle.lines.specs.declared.Filling.TheVariants.{Filled}
+use Rattle.lines.specs.declared.Filling.{Filling}
+use Rattle.lines.specs.declared.Filling.TheVariants.{Filled, Refused}
+use Rattle.lines.specs.declared.Unfed.{Unfed}
 use Rattle.lines.specs.declared.Unfed.TheVariants.{Closed, OverLimit, NoRoom}
-use Rattle.lines.specs.View.{view, state_of}
-use Rattle.lines.specs.Number.{number_in, Against, owed_number}
+use Rattle.lines.specs.View.{view, state_of, memory_after}
 
--- against a fragment s with n bytes of room: the text was closed; it would have over 4,294,967,295 bytes; what is printed has more bytes than the room
-unfoldable pub against_feeding : Reader → List ℕ → ℕ → Against
-against_feeding r s n Closed = r.closed
-against_feeding r s n OverLimit = ltb 4294967295 (r.read + length s)
-against_feeding r s n NoRoom = ltb n (length (feed_text r s))
+-- what there is to print, or why there is nothing
+pub data Outcome : Type 0 where
+  prints : List ℕ → Outcome
+  refuses : Unfed → Outcome
 
--- against the closing call, which brings no byte
-unfoldable pub against_closing : Reader → ℕ → Against
-against_closing r n Closed = r.closed
-against_closing r n OverLimit = false
-against_closing r n NoRoom = ltb n (length (close_text r))
+-- a fragment: any call after the closing one is refused, and then a fragment that takes the text over the limit
+unfoldable pub feedOutcome : Reader → List ℕ → Outcome
+feedOutcome r s =
+    cond r.closed (refuses Closed)
+    (cond (ltb 4294967295 (r.read + length s)) (refuses OverLimit)
+    (prints (feed_text r s)))
 
--- what is left where no number is owed, and where one is
-abbrev pub if_none : {A : Type 0} → Option ℕ → A → A → A
-if_none none a b = a
-if_none (some k) a b = b
+unfoldable pub closeOutcome : Reader → Outcome
+closeOutcome r = cond r.closed (refuses Closed) (prints (close_text r))
 
--- A call on a state beside its memory, which prints t and owes a number or none. Where none is owed it is done: the answer is how many bytes t has, t
--- stands at the room's front and the bytes behind it are as they were, the memory is `kept`, and the reader that state and memory stand for is `next`.
--- Where a number is owed the answer carries it, and state, memory and room are as they were.
-pub record Does (t : List ℕ) (owed : Option ℕ) (next : Reader) (kept : List ℕ) (state₀ : State) (memory₀ room₀ : List ℕ) (r : Fed) (memory₁ room₁ : List ℕ) : Type 0 where
-  pub number : number_in r.filling ≡ owed
-  pub filled : owed ≡ none → r.filling ≡ Filled (length t)
-  pub room : room₁ ≡ if_none owed (t ++ drop (length t) room₀) room₀
-  pub memory : memory₁ ≡ if_none owed kept memory₀
-  pub state : r.state ≡ if_none owed (state_of next) state₀
-  pub reader : view r.state memory₁ ≡ if_none owed next (view state₀ memory₀)
+-- whether a call is accepted in a room of n bytes
+unfoldable pub accepts : Outcome → ℕ → Bool
+accepts (prints t) n = leb (length t) n
+accepts (refuses why) n = false
+
+-- its answer: how many bytes it filled, or why it was refused
+unfoldable pub fillingOf : Outcome → ℕ → Filling
+fillingOf (prints t) n = cond (leb (length t) n) (Filled (length t)) (Refused NoRoom)
+fillingOf (refuses why) n = Refused why
+
+-- the room then: the text at its front and the bytes behind it as they were; where the call was refused every byte as it was
+unfoldable pub roomOf : Outcome → List ℕ → List ℕ
+roomOf (prints t) room = cond (leb (length t) (length room)) (t ++ drop (length t) room) room
+roomOf (refuses why) room = room
+
+-- A call on a state beside its memory. Where it is accepted, the reader that they stand for is `next` then, and the memory is `kept`; where it is
+-- refused they are as they were.
+pub record Does (outcome : Outcome) (next : Reader) (kept : List ℕ) (state₀ : State) (memory₀ room₀ : List ℕ) (r : Fed) (memory₁ room₁ : List ℕ) : Type 0 where
+  pub filling : r.filling ≡ fillingOf outcome (length room₀)
+  pub room : room₁ ≡ roomOf outcome room₀
+  pub memory : memory₁ ≡ cond (accepts outcome (length room₀)) kept memory₀
+  pub state : r.state ≡ cond (accepts outcome (length room₀)) (state_of next) state₀
+  pub reader : view r.state memory₁ ≡ cond (accepts outcome (length room₀)) next (view state₀ memory₀)
 
 -- a fragment s
 abbrev pub Feeds : State → List ℕ → List ℕ → List ℕ → Fed → List ℕ → List ℕ → Type 0
 Feeds state memory s room =
     let reader = view state memory in
-    Does (feed_text reader s) (owed_number (against_feeding reader s (length room))) (fed reader s) (memory_after (length reader.begun) memory s)
-    state memory room
+    Does (feedOutcome reader s) (fed reader s) (memory_after (length reader.begun) memory s) state memory room
 
 -- the end of the text, which leaves the memory as it was
 abbrev pub Closes : State → List ℕ → List ℕ → Fed → List ℕ → Type 0
 Closes state memory room r room₁ =
     let reader = view state memory in
-    Does (close_text reader) (owed_number (against_closing reader (length room))) (closed reader) memory state memory room r memory room₁
+    Does (closeOutcome reader) (closed reader) memory state memory room r memory room₁
 
 -- No second answer meets either: one answer and state, one memory and one room. `proofs/Settled.antt` proves both statements.
 abbrev pub FeedsSettled : Type 0

@@ -1,0 +1,7 @@
+-- `equal::hosts_at` meets its contract.
+use Rattle.equal.proofs.Laws.{laws}
+use Rattle.std.proofs.Common.{rules}
+use Rattle.equal.proofs.hosts_at.Goals as goal
+
+pub returns : goal.returns
+returns c = search (rules, laws)

@@ -1,0 +1,7 @@
+-- `equal::prints::fingerprint` meets its contract.
+use Rattle.equal.proofs.PrintLaws.{laws}
+use Rattle.std.proofs.Common.{rules}
+use Rattle.equal.proofs.prints.fingerprint.Goals as goal
+
+pub returns : goal.returns
+returns c = search (rules, laws)

@@ -1,0 +1,2 @@
+-- What only private functions and proofs need: it need not be believed.
+pub mod Steps
