@@ -1,0 +1,9 @@
+use Rattle.counts.proofs.Laws.{laws}
+use Rattle.counts.proofs.start.Reads as reads
+use Rattle.counts.proofs.start.Lts as lts
+use Rattle.std.proofs.Common.{rules}
+use Rattle.counts.proofs.start.Goals as goal
+
+-- src/lib.rt:28:1
+pub returns : goal.returns
+returns c = search (rules, laws)
