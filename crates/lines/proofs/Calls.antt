@@ -15,7 +15,7 @@ use Rattle.lines.specs.declared.State.{State}
 use Rattle.lines.specs.declared.Filling.{Filling}
 use Rattle.lines.specs.declared.Filling.TheVariants.{Filled, Refused}
 use Rattle.lines.specs.View.{view, state_of}
-use Rattle.lines.specs.Call.{Outcome, prints, refuses, feedOutcome, closeOutcome, accepts, fillingOf, roomOf}
+use Rattle.lines.specs.Call.{Outcome, prints, refuses, feed_outcome, close_outcome, accepts, filling_of, room_of}
 use Rattle.lines.specs.Calls.{Calls, last, more, PrintTheReport}
 
 -- a call that filled n bytes printed a text, which stands at the room's front
@@ -23,14 +23,14 @@ record Fills (o : Outcome) (room : List ℕ) (n : ℕ) : Type 0 where
   text : List ℕ
   is : o ≡ prints text
   accepted : accepts o (length room) ≡ true
-  front : take n (roomOf o room) ≡ text
+  front : take n (room_of o room) ≡ text
 
 abbrev bytes_of : Filling → ℕ
 bytes_of (Filled n) = n
 bytes_of (Refused why) = 0
 
-fills : (o : Outcome) (room : List ℕ) (n : ℕ) → fillingOf o (length room) ≡ Filled n → Fills o room n
-unfolding fillingOf roomOf accepts
+fills : (o : Outcome) (room : List ℕ) (n : ℕ) → filling_of o (length room) ≡ Filled n → Fills o room n
+unfolding filling_of room_of accepts
 fills (refuses why) room n e = clash (cc)
 fills (prints t) room n e =
     by_bool (leb (length t) (length room))
@@ -44,30 +44,30 @@ fills (prints t) room n e =
     })
     (λ f. clash (cc (simp f at e)))
 
-abbrev textIn : Outcome → List ℕ
-textIn (prints t) = t
-textIn (refuses why) = []
+abbrev text_in : Outcome → List ℕ
+text_in (prints t) = t
+text_in (refuses why) = []
 
-close-is : (r : Reader) (t : List ℕ) → closeOutcome r ≡ prints t → t ≡ close_text r
-unfolding closeOutcome
-close-is r t e = by_bool r.closed (λ f. clash (cc (simp f at e))) (λ f. sym (ap textIn (simp f at e)))
+close_is : (r : Reader) (t : List ℕ) → close_outcome r ≡ prints t → t ≡ close_text r
+unfolding close_outcome
+close_is r t e = by_bool r.closed (λ f. clash (cc (simp f at e))) (λ f. sym (ap text_in (simp f at e)))
 
-feed-is : (r : Reader) (s t : List ℕ) → feedOutcome r s ≡ prints t → t ≡ feed_text r s
-unfolding feedOutcome
-feed-is r s t e =
+feed_is : (r : Reader) (s t : List ℕ) → feed_outcome r s ≡ prints t → t ≡ feed_text r s
+unfolding feed_outcome
+feed_is r s t e =
     by_bool r.closed (λ f. clash (cc (simp f at e)))
-    (λ f. by_bool (ltb 4294967295 (r.read + length s)) (λ g. clash (cc (simp (f, g) at e))) (λ g. sym (ap textIn (simp (f, g) at e))))
+    (λ f. by_bool (ltb 4294967295 (r.read + length s)) (λ g. clash (cc (simp (f, g) at e))) (λ g. sym (ap text_in (simp (f, g) at e))))
 
 session_printed : {state : State} {memory : List ℕ} {fragments : List (List ℕ)} {printed : List ℕ} → Calls state memory fragments printed
     → printed ≡ session (view state memory) fragments
 unfolding session
 session_printed (last state memory room r after n w e) =
-    let f = fills (closeOutcome (view state memory)) room n (sym w.filling ∙ e) in
-    ap (take n) w.room ∙ f.front ∙ close-is (view state memory) f.text f.is
+    let f = fills (close_outcome (view state memory)) room n (sym w.filling ∙ e) in
+    ap (take n) w.room ∙ f.front ∙ close_is (view state memory) f.text f.is
 session_printed (more state memory s room r kept after n fragments printed w e calls) =
-    let f = fills (feedOutcome (view state memory) s) room n (sym w.filling ∙ e) in
+    let f = fills (feed_outcome (view state memory) s) room n (sym w.filling ∙ e) in
     let next : view r.state kept ≡ fed (view state memory) s = simp f.accepted at w.reader in
-    ap (λ (t : List ℕ). t ++ printed) (ap (take n) w.room ∙ f.front ∙ feed-is (view state memory) s f.text f.is)
+    ap (λ (t : List ℕ). t ++ printed) (ap (take n) w.room ∙ f.front ∙ feed_is (view state memory) s f.text f.is)
     ∙ ap (λ (t : List ℕ). feed_text (view state memory) s ++ t) (session_printed calls ∙ ap (λ (q : Reader). session q fragments) next)
 
 first : (memory : List ℕ) → view (state_of (reader_of [])) memory ≡ reader_of []

@@ -38,7 +38,7 @@ use Rattle.lines.specs.declared.Unfed.TheVariants.{Closed, OverLimit, NoRoom}
 use Rattle.lines.specs.declared.Progress.{Progress}
 use Rattle.lines.specs.declared.Ran.{Ran}
 use Rattle.lines.specs.View.{view, state_of, memory_at_end, memory_after}
-use Rattle.lines.specs.Call.{Outcome, prints, refuses, feedOutcome, closeOutcome, accepts, fillingOf, roomOf, Does, Feeds, Closes}
+use Rattle.lines.specs.Call.{Outcome, prints, refuses, feed_outcome, close_outcome, accepts, filling_of, room_of, Does, Feeds, Closes}
 use Rattle.lines.specs.Private.Steps.{Prints, Replied, Replies, progress, Passes, Keeps, Ends, Runs, finish_text, Finishes}
 
 -- A text at the front of a part of the room, which begins at the place `at` or at the room's end if that comes first.
@@ -395,19 +395,19 @@ start_state = refl
 -- What a call does, by its outcome.
 module _ {o : Outcome} {next : Reader} {kept : List ℕ} {state : State} {memory room : List ℕ} where
   does_refuse : {why : Unfed} → o ≡ refuses why → Does o next kept state memory room (record { filling = Refused why; state = state }) memory room
-  unfolding fillingOf roomOf accepts
+  unfolding filling_of room_of accepts
   does_refuse e = rw e (record { filling = refl; room = refl; memory = refl; state = refl; reader = refl })
 
   module _ {t : List ℕ} (e : o ≡ prints t) where
     does_nothing : length room < length t → Does o next kept state memory room (record { filling = Refused NoRoom; state = state }) memory room
-    unfolding fillingOf roomOf accepts
+    unfolding filling_of room_of accepts
     does_nothing h =
         let f : leb (length t) (length room) ≡ false = lt-leb (length t) (length room) h in
         rw e (record { filling = simp f; room = simp f; memory = simp f; state = simp f; reader = simp f })
 
     does_print : {n : ℕ} {state' : State} {room' : List ℕ} → length t ≤ length room → Prints t room 0 n room' → state' ≡ state_of next → view state' kept ≡ next
         → Does o next kept state memory room (record { filling = Filled n; state = state' }) kept room'
-    unfolding fillingOf roomOf accepts
+    unfolding filling_of room_of accepts
     does_print h p g v =
         let f : leb (length t) (length room) ≡ true = le-leb (length t) (length room) h in
         let n : _ ≡ length t = p.place ∙ zero-add (length t) in
@@ -441,25 +441,25 @@ memory_length n memory s =
 -- `feed`
 module _ (state : State) (memory s room : List ℕ) where
   pub feed_closed : state.closed ≡ true → Feeds state memory s room (record { filling = Refused Closed; state = state }) memory room
-  unfolding feedOutcome
+  unfolding feed_outcome
   feed_closed c = does_refuse (simp c)
 
   module _ (c : state.closed ≡ false) where
     pub feed_over : 4294967295 < state.read + length s → Feeds state memory s room (record { filling = Refused OverLimit; state = state }) memory room
-    unfolding feedOutcome
+    unfolding feed_outcome
     feed_over h = does_refuse (simp (c, lt-ltb 4294967295 (state.read + length s) h))
 
     module _ (h : state.read + length s ≤ 4294967295) (len : ℕ) (e : len ≡ min state.len 4098) (m : length memory ≡ 4098) (z : Bool)
         (f : z ≡ leb (length (printed (ended_from (take len memory) s))) (length room)) where
-      feed_prints : feedOutcome (view state memory) s ≡ prints (feed_text (view state memory) s)
-      unfolding feedOutcome
+      feed_prints : feed_outcome (view state memory) s ≡ prints (feed_text (view state memory) s)
+      unfolding feed_outcome
       feed_prints = simp (c, le-ltb 4294967295 (state.read + length s) h)
 
-      fits-same : z ≡ leb (length (feed_text (view state memory) s)) (length room)
-      fits-same = f ∙ ap (λ (q : List ℕ). leb (length (printed (ended_from q s))) (length room)) (open_same state memory len e m)
+      fits_same : z ≡ leb (length (feed_text (view state memory) s)) (length room)
+      fits_same = f ∙ ap (λ (q : List ℕ). leb (length (printed (ended_from q s))) (length room)) (open_same state memory len e m)
 
       pub feed_short : z ≡ false → Feeds state memory s room (record { filling = Refused NoRoom; state = state }) memory room
-      feed_short g = does_nothing feed_prints (leb-false (length (feed_text (view state memory) s)) (length room) (sym fits-same ∙ g))
+      feed_short g = does_nothing feed_prints (leb-false (length (feed_text (view state memory) s)) (length room) (sym fits_same ∙ g))
 
       pub feed_done : z ≡ true → (r : Ran) (memory' room' : List ℕ) → Runs memory len s room state.totals r memory' room'
           → Feeds state memory s room
@@ -478,34 +478,34 @@ module _ (state : State) (memory s room : List ℕ) where
           sym (length-take-le r.len (memory_after (length q) memory s) (omega (arith, w.short, memory_length (length q) memory s))) ∙ ap length b in
           let t : r.past.totals ≡ counted_all state.totals (ended_from q s) = w.passes.totals ∙ ap (λ (x : List ℕ). counted_all state.totals (ended_from x s)) o in
           rw k
-          (does_print feed_prints (leb-true (length (feed_text (view state memory) s)) (length room) (sym fits-same ∙ g))
+          (does_print feed_prints (leb-true (length (feed_text (view state memory) s)) (length room) (sym fits_same ∙ g))
           (rw o at w.passes.put) (cc (n, t)) (cc (b, t)))
 
 -- `close`
 module _ (state : State) (memory room : List ℕ) where
   pub close_closed : state.closed ≡ true → Closes state memory room (record { filling = Refused Closed; state = state }) room
-  unfolding closeOutcome
+  unfolding close_outcome
   close_closed c = does_refuse (simp c)
 
   module _ (c : state.closed ≡ false) (len : ℕ) (e : len ≡ min state.len 4098) (m : length memory ≡ 4098) (n : ℕ)
       (f : n ≡ length (finish_text (take len memory) state.totals)) where
-    close_prints : closeOutcome (view state memory) ≡ prints (close_text (view state memory))
-    unfolding closeOutcome
+    close_prints : close_outcome (view state memory) ≡ prints (close_text (view state memory))
+    unfolding close_outcome
     close_prints = simp c
 
-    close-length : n ≡ length (close_text (view state memory))
+    close_length : n ≡ length (close_text (view state memory))
     unfolding close_text
-    close-length = rw (open_same state memory len e m) at f
+    close_length = rw (open_same state memory len e m) at f
 
     pub close_short : length room < n → Closes state memory room (record { filling = Refused NoRoom; state = state }) room
-    close_short h = does_nothing close_prints (omega (arith, close-length))
+    close_short h = does_nothing close_prints (omega (arith, close_length))
 
     pub close_done : n ≤ length room → (r : Progress) (room' : List ℕ) → Finishes (take len memory) room state.totals r room'
         → Closes state memory room (record { filling = Filled r.at; state = record { len = 0; totals = r.totals; read = state.read; closed = true } }) room'
     unfolding close_text closed
     close_done h r room' w =
         let x = rw (open_same state memory len e m) at w in
-        does_print close_prints (omega (arith, close-length)) x.put (cc x.totals) (cc x.totals)
+        does_print close_prints (omega (arith, close_length)) x.put (cc x.totals) (cc x.totals)
 
 pub ruleset laws = (
   reply_put,

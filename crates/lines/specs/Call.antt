@@ -15,14 +15,14 @@ pub data Outcome : Type 0 where
   refuses : Unfed → Outcome
 
 -- a fragment: any call after the closing one is refused, and then a fragment that takes the text over the limit
-unfoldable pub feedOutcome : Reader → List ℕ → Outcome
-feedOutcome r s =
+unfoldable pub feed_outcome : Reader → List ℕ → Outcome
+feed_outcome r s =
     cond r.closed (refuses Closed)
     (cond (ltb 4294967295 (r.read + length s)) (refuses OverLimit)
     (prints (feed_text r s)))
 
-unfoldable pub closeOutcome : Reader → Outcome
-closeOutcome r = cond r.closed (refuses Closed) (prints (close_text r))
+unfoldable pub close_outcome : Reader → Outcome
+close_outcome r = cond r.closed (refuses Closed) (prints (close_text r))
 
 -- whether a call is accepted in a room of n bytes
 unfoldable pub accepts : Outcome → ℕ → Bool
@@ -30,20 +30,20 @@ accepts (prints t) n = leb (length t) n
 accepts (refuses why) n = false
 
 -- its answer: how many bytes it filled, or why it was refused
-unfoldable pub fillingOf : Outcome → ℕ → Filling
-fillingOf (prints t) n = cond (leb (length t) n) (Filled (length t)) (Refused NoRoom)
-fillingOf (refuses why) n = Refused why
+unfoldable pub filling_of : Outcome → ℕ → Filling
+filling_of (prints t) n = cond (leb (length t) n) (Filled (length t)) (Refused NoRoom)
+filling_of (refuses why) n = Refused why
 
 -- the room then: the text at its front and the bytes behind it as they were; where the call was refused every byte as it was
-unfoldable pub roomOf : Outcome → List ℕ → List ℕ
-roomOf (prints t) room = cond (leb (length t) (length room)) (t ++ drop (length t) room) room
-roomOf (refuses why) room = room
+unfoldable pub room_of : Outcome → List ℕ → List ℕ
+room_of (prints t) room = cond (leb (length t) (length room)) (t ++ drop (length t) room) room
+room_of (refuses why) room = room
 
 -- A call on a state beside its memory. Where it is accepted, the reader that they stand for is `next` then, and the memory is `kept`; where it is
 -- refused they are as they were.
 pub record Does (outcome : Outcome) (next : Reader) (kept : List ℕ) (state₀ : State) (memory₀ room₀ : List ℕ) (r : Fed) (memory₁ room₁ : List ℕ) : Type 0 where
-  pub filling : r.filling ≡ fillingOf outcome (length room₀)
-  pub room : room₁ ≡ roomOf outcome room₀
+  pub filling : r.filling ≡ filling_of outcome (length room₀)
+  pub room : room₁ ≡ room_of outcome room₀
   pub memory : memory₁ ≡ cond (accepts outcome (length room₀)) kept memory₀
   pub state : r.state ≡ cond (accepts outcome (length room₀)) (state_of next) state₀
   pub reader : view r.state memory₁ ≡ cond (accepts outcome (length room₀)) next (view state₀ memory₀)
@@ -52,13 +52,13 @@ pub record Does (outcome : Outcome) (next : Reader) (kept : List ℕ) (state₀ 
 abbrev pub Feeds : State → List ℕ → List ℕ → List ℕ → Fed → List ℕ → List ℕ → Type 0
 Feeds state memory s room =
     let reader = view state memory in
-    Does (feedOutcome reader s) (fed reader s) (memory_after (length reader.begun) memory s) state memory room
+    Does (feed_outcome reader s) (fed reader s) (memory_after (length reader.begun) memory s) state memory room
 
 -- the end of the text, which leaves the memory as it was
 abbrev pub Closes : State → List ℕ → List ℕ → Fed → List ℕ → Type 0
 Closes state memory room r room₁ =
     let reader = view state memory in
-    Does (closeOutcome reader) (closed reader) memory state memory room r memory room₁
+    Does (close_outcome reader) (closed reader) memory state memory room r memory room₁
 
 -- No second answer meets either: one answer and state, one memory and one room. `proofs/Settled.antt` proves both statements.
 abbrev pub FeedsSettled : Type 0

@@ -1,0 +1,7 @@
+-- `lines::put_plain` meets its contract: the answer stands in the part of the room behind the place, where that is long enough.
+use Rattle.lines.proofs.Laws.{laws}
+use Rattle.std.proofs.Common.{rules}
+use Rattle.lines.proofs.put_plain.Goals as goal
+
+pub returns : goal.returns
+returns c = search (rules, laws)
