@@ -8,6 +8,7 @@ ghost use Rattle.report.specs.Report.{printed, totals_text};
 ghost use Rattle.report.specs.Reader.{reader_of};
 ghost use Rattle.briefreply.specs.Plain.{plain_reply};
 ghost use Rattle.lines.specs.View.{state_of};
+ghost use Rattle.lines.specs.Number.{unfed_number};
 ghost use Rattle.lines.specs.Call.{Feeds, Closes};
 ghost use Rattle.lines.specs.Private.Steps.{Prints, Replied, Replies, Keeps, Ends, Runs, finish_text, Finishes};
 
@@ -195,6 +196,18 @@ fn fits(begun: &[u8], text: &[u8], totals: Totals, room: usize) -> bool
     let len = keep(scratch, 0, begun);
     let ran = run(scratch, len, text, &mut none[..0], totals);
     ran.past.at <= room
+}
+
+// The number of a refusal.
+#[tactic(auto, unfolding(crate::specs::Number::unfed_number))]
+pub fn refusal_number(why: Unfed) -> u8
+    ensures { result ≡ unfed_number why }
+{
+    match why {
+        Unfed::Closed => 28,
+        Unfed::OverLimit => 37,
+        Unfed::NoRoom => 24,
+    }
 }
 
 // Memory for the open line: zeros, though it may hold anything.
