@@ -1,9 +1,7 @@
 -- One law for each way out of the crate's functions, and what a call does by its outcome. Assumes nothing.
-use Prim.Native.Nat.{ℕ, ◌+◌, ◌-◌, ◌≤◌, ◌<◌, min}
-use mathlib.Core.Path.{◌≡◌, refl, sym, ap, ◌∙◌}
+use Prim.Native.Nat.{ℕ, ◌-◌, ◌≤◌, ◌<◌}
+use mathlib.Core.Path.{◌≡◌, refl, sym, ◌∙◌}
 use mathlib.Core.List.{List}
-use native.Mathlib.Omega.{arith}
-use lib.Dec.{ltb}
 use lib.ListN.{get_or, set, replicate}
 use borrow.Author.Tests.{lt-ltb, le-ltb}
 use Rattle.streams.specs.declared.Uncounted.{Uncounted}
@@ -11,7 +9,7 @@ use Rattle.clock.specs.declared.ReferenceClock.{ReferenceClock}
 use Rattle.naming.specs.Domain.{or_none, domain_in}
 use Rattle.counts.specs.declared.Census.{Census}
 use Rattle.counts.specs.declared.Called.{Called}
-use Rattle.counts.specs.State.{census, fresh_census, used_in, plus, more, less, one_more, one_less, domain_count}
+use Rattle.counts.specs.State.{census, fresh_census, plus, more, less, one_more, one_less, domain_count}
 use Rattle.counts.specs.Outcome.{done_with, refused_with, Outcome, leaves, refuses, Does}
 
 pub fresh : census 0 0 0 (replicate 128 0) ≡ fresh_census

@@ -221,8 +221,8 @@ quick_media kind.media_ext = quick_ext
 
 abbrev pub quick_source : SourceKind → Rule
 quick_source (k with_id kind.no_id) = quick_media k
-quick_source (k with_id kind.plainId) = front 3 (text "id=") (cut 32 base64 (quick_media k))
-quick_source (k with_id kind.srcId) = front 3 (text "id=") (front 4 (text "src:") (cut 32 base64 (quick_media k)))
+quick_source (k with_id kind.plain_id) = front 3 (text "id=") (cut 32 base64 (quick_media k))
+quick_source (k with_id kind.src_id) = front 3 (text "id=") (front 4 (text "src:") (cut 32 base64 (quick_media k)))
 
 direct_is : direct published ≡ quick_media kind.direct
 unfolding direct rate integer offset only_in
@@ -247,10 +247,10 @@ tag_then q r e = fun_ext (then_assoc base64 sp q) ∙ fun_ext (cut_then 32 base6
 
 pub source_quick : (k : SourceKind) → mediaclk_of published k ≡ quick_source k
 source_quick (k with_id kind.no_id) = unfold only_in in media_quick k
-source_quick (k with_id kind.plainId) =
+source_quick (k with_id kind.plain_id) =
     fun_ext (then_assoc (text "id=") _ (mediaclock_of published k))
     ∙ rw (tag_then (mediaclock_of published k) (quick_media k) (media_quick k)) (word_then "id=" _)
-source_quick (k with_id kind.srcId) =
+source_quick (k with_id kind.src_id) =
     fun_ext (then_assoc (text "id=") _ (mediaclock_of published k))
     ∙ ap (λ (r : Rule). text "id=" then r) (fun_ext (then_assoc (text "src:") _ (mediaclock_of published k)))
     ∙ rw (tag_then (mediaclock_of published k) (quick_media k) (media_quick k), word_then "src:" (cut 32 base64 (quick_media k))) (word_then "id=" _)

@@ -9,8 +9,8 @@ use Rattle.clock.specs.declared.ReferenceClockRead.TheVariants as ref
 use Rattle.meaning.specs.ReferenceClock.{read_reference_clock}
 use Rattle.meaning.specs.Text.{reference_clock_text}
 use Rattle.rfc7273.specs.Manner.{published}
-use Rattle.rfc7273.specs.Kinds.{Says, accepted_as, refused_with, RefKind, ntp, ptp, gps, gal, glonass, local, private, ref_ext, ref_says, no_id, plainId}
-use Rattle.rfc7273.specs.Kinds.{srcId, sender, direct, stream, media_ext, SourceKind, ◌with_id◌, media_says}
+use Rattle.rfc7273.specs.Kinds.{Says, accepted_as, refused_with, RefKind, ntp, ptp, gps, gal, glonass, local, private, ref_ext, ref_says, no_id, plain_id}
+use Rattle.rfc7273.specs.Kinds.{src_id, sender, direct, stream, media_ext, SourceKind, ◌with_id◌, media_says}
 use Rattle.rfc7273.specs.Grammar.{clksrc_of, mediaclk_of}
 
 -- those kinds whose alternative takes the text s
@@ -25,8 +25,8 @@ ref_kinds = ntp ∷ ptp ∷ gps ∷ gal ∷ glonass ∷ local ∷ private ∷ re
 abbrev pub source_kinds : List SourceKind
 source_kinds =
     sender with_id no_id ∷ direct with_id no_id ∷ stream with_id no_id ∷ media_ext with_id no_id
-    ∷ sender with_id plainId ∷ direct with_id plainId ∷ stream with_id plainId ∷ media_ext with_id plainId
-    ∷ sender with_id srcId ∷ direct with_id srcId ∷ stream with_id srcId ∷ media_ext with_id srcId ∷ []
+    ∷ sender with_id plain_id ∷ direct with_id plain_id ∷ stream with_id plain_id ∷ media_ext with_id plain_id
+    ∷ sender with_id src_id ∷ direct with_id src_id ∷ stream with_id src_id ∷ media_ext with_id src_id ∷ []
 
 abbrev pub ref_both : List ℕ → List RefKind × Says RefKind
 ref_both s = (takers (clksrc_of published) s ref_kinds, ref_says s)
@@ -55,8 +55,8 @@ source_examples =
     ∷ word "direct=963214424" gives (direct with_id no_id ∷ media_ext with_id no_id ∷ [], accepted_as (direct with_id no_id))
     ∷ word "direct=963214424 rate=1000/1001" gives (direct with_id no_id ∷ media_ext with_id no_id ∷ [], accepted_as (direct with_id no_id))
     ∷ word "IEEE1722=38-D6-6D-8E-D2-78-13-2F" gives (stream with_id no_id ∷ media_ext with_id no_id ∷ [], accepted_as (stream with_id no_id))
-    ∷ word "id=src:MDA6 sender" gives (media_ext with_id no_id ∷ sender with_id srcId ∷ media_ext with_id srcId ∷ [], accepted_as (sender with_id srcId))
-    ∷ word "id=MDA= sender" gives (media_ext with_id no_id ∷ sender with_id plainId ∷ media_ext with_id plainId ∷ [], accepted_as (sender with_id plainId))
+    ∷ word "id=src:MDA6 sender" gives (media_ext with_id no_id ∷ sender with_id src_id ∷ media_ext with_id src_id ∷ [], accepted_as (sender with_id src_id))
+    ∷ word "id=MDA= sender" gives (media_ext with_id no_id ∷ sender with_id plain_id ∷ media_ext with_id plain_id ∷ [], accepted_as (sender with_id plain_id))
     ∷ []
 
 -- ts-refclk: looser than the RFC. Any byte-string can be the value of an extension, so most of these are extensions named "ntp" or "ptp" to the RFC.
@@ -140,7 +140,7 @@ source_looser =
     ∷ word "direct " gives ([], accepted_as (direct with_id no_id))
     ∷ word "direct=5 " gives (media_ext with_id no_id ∷ [], accepted_as (direct with_id no_id))
     -- a tag of any bytes but a space
-    ∷ word "id=a*b sender" gives (media_ext with_id no_id ∷ [], accepted_as (sender with_id plainId))
+    ∷ word "id=a*b sender" gives (media_ext with_id no_id ∷ [], accepted_as (sender with_id plain_id))
     -- an extension whose name has bytes that no token has, but no "="
     ∷ word "a b" gives ([], accepted_as (media_ext with_id no_id))
     -- no departure: "sender" with a value is an extension to both
@@ -165,8 +165,8 @@ source_stricter =
     ∷ word "Direct=5" gives (direct with_id no_id ∷ media_ext with_id no_id ∷ [], accepted_as (media_ext with_id no_id))
     ∷ word "direct RATE=1/2" gives (direct with_id no_id ∷ [], refused_with 15)
     ∷ word "ieee1722=38-D6-6D-8E-D2-78-13-2F" gives (stream with_id no_id ∷ media_ext with_id no_id ∷ [], accepted_as (media_ext with_id no_id))
-    ∷ word "ID=AAAA sender" gives (media_ext with_id no_id ∷ sender with_id plainId ∷ media_ext with_id plainId ∷ [], accepted_as (media_ext with_id no_id))
-    ∷ word "id=SRC:AAAA sender" gives (media_ext with_id no_id ∷ sender with_id srcId ∷ media_ext with_id srcId ∷ [], accepted_as (sender with_id plainId))
+    ∷ word "ID=AAAA sender" gives (media_ext with_id no_id ∷ sender with_id plain_id ∷ media_ext with_id plain_id ∷ [], accepted_as (media_ext with_id no_id))
+    ∷ word "id=SRC:AAAA sender" gives (media_ext with_id no_id ∷ sender with_id src_id ∷ media_ext with_id src_id ∷ [], accepted_as (sender with_id plain_id))
     -- "sender" or "direct" with a token behind it
     ∷ word "sender2" gives (sender with_id no_id ∷ media_ext with_id no_id ∷ [], accepted_as (media_ext with_id no_id))
     ∷ word "director" gives (direct with_id no_id ∷ media_ext with_id no_id ∷ [], refused_with 15)
@@ -181,8 +181,8 @@ source_stricter =
     -- a stream with more behind it
     ∷ word "IEEE1722=38-D6-6D-8E-D2-78-13-2F x" gives (media_ext with_id no_id ∷ [], refused_with 19)
     -- an empty tag
-    ∷ word "id= sender" gives (media_ext with_id no_id ∷ sender with_id plainId ∷ media_ext with_id plainId ∷ [], refused_with 13)
-    ∷ word "id=src: sender" gives (media_ext with_id no_id ∷ sender with_id srcId ∷ media_ext with_id srcId ∷ [], refused_with 13)
+    ∷ word "id= sender" gives (media_ext with_id no_id ∷ sender with_id plain_id ∷ media_ext with_id plain_id ∷ [], refused_with 13)
+    ∷ word "id=src: sender" gives (media_ext with_id no_id ∷ sender with_id src_id ∷ media_ext with_id src_id ∷ [], refused_with 13)
     ∷ []
 
 -- all rows of mediaclk that are of bytes below 128

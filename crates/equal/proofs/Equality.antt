@@ -74,7 +74,7 @@ bytes_back k s = cond (eqb k 0) none (some s)
 
 abbrev version_back : ℕ → List ℕ → Version
 version_back f s =
-    cond (eqb f 0) means.ieee1588-2002 (cond (eqb f 1) means.ieee1588-2008 (cond (eqb f 2) means.ieee802-1as-2011 (means.own_version s)))
+    cond (eqb f 0) means.ieee1588_2002 (cond (eqb f 1) means.ieee1588_2008 (cond (eqb f 2) means.ieee802_1as_2011 (means.own_version s)))
 
 abbrev server_back : Flat → Server
 server_back x =
@@ -92,14 +92,14 @@ clock_back x =
     (cond (eqb x.kind 4) means.gal
     (cond (eqb x.kind 5) means.glonass
     (cond (eqb x.kind 6) means.local
-    (cond (eqb x.kind 7) means.privateStandard
-    (cond (eqb x.kind 8) means.privateTraceable
+    (cond (eqb x.kind 7) means.private_standard
+    (cond (eqb x.kind 8) means.private_traceable
     (means.ref_ext x.name (bytes_back x.first x.value))))))))))
 
 version_back_lem : (v : Version) → version_back (version_kind v) (version_name v) ≡ v
-version_back_lem means.ieee1588-2002 = refl
-version_back_lem means.ieee1588-2008 = refl
-version_back_lem means.ieee802-1as-2011 = refl
+version_back_lem means.ieee1588_2002 = refl
+version_back_lem means.ieee1588_2008 = refl
+version_back_lem means.ieee802_1as_2011 = refl
 version_back_lem (means.own_version s) = refl
 
 ptp_back : (g : List ℕ) (v : Version) (s : Server) → means.ptp v s ≡ clock_back (headed g (server_says (version_kind v) (version_name v) s))
@@ -121,8 +121,8 @@ module _ (hosts : Hosts) (g : List ℕ) where
   clock_back_lem means.gal e = equal refl
   clock_back_lem means.glonass e = equal refl
   clock_back_lem means.local e = equal refl
-  clock_back_lem means.privateStandard e = equal refl
-  clock_back_lem means.privateTraceable e = equal refl
+  clock_back_lem means.private_standard e = equal refl
+  clock_back_lem means.private_traceable e = equal refl
   clock_back_lem (means.ref_ext n none) e = equal refl
   clock_back_lem (means.ref_ext n (some v)) e = equal refl
 
@@ -151,7 +151,7 @@ pub alike_decides : AlikeDecides
 alike_decides hosts q m n = record { right = alike_right hosts m n; found = alike_found hosts m n q.to_self }
 
 abbrev tag_back : ℕ → List ℕ → Option Tag
-tag_back k t = cond (eqb k 0) none (cond (eqb k 1) (some (means.plainTag t)) (some (means.srcTag t)))
+tag_back k t = cond (eqb k 0) none (cond (eqb k 1) (some (means.plain_tag t)) (some (means.src_tag t)))
 
 abbrev rate_back : ℕ → ℕ → Option Ratio
 rate_back zero d = none
@@ -169,8 +169,8 @@ source_back x = means.media_source (tag_back x.form x.head) (media_back x)
 
 tag_back_lem : (t : Option Tag) → tag_back (tag_kind t) (tag_bytes t) ≡ t
 tag_back_lem none = refl
-tag_back_lem (some (means.plainTag t)) = refl
-tag_back_lem (some (means.srcTag t)) = refl
+tag_back_lem (some (means.plain_tag t)) = refl
+tag_back_lem (some (means.src_tag t)) = refl
 
 media_back_lem : (f : ℕ) (t : List ℕ) (m : MediaMeaning) → source_back (media_says f t m) ≡ means.media_source (tag_back f t) m
 unfolding source_back number_back

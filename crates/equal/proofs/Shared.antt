@@ -47,16 +47,16 @@ module _ (print : List ℕ → ℕ) where
   flat_print_lem means.ntp_traceable = refl
   flat_print_lem (means.ntp_host h none) = refl
   flat_print_lem (means.ntp_host h (some n)) = refl
-  flat_print_lem (means.ptp means.ieee1588-2002 s) = server_print_lem 0 [] s
-  flat_print_lem (means.ptp means.ieee1588-2008 s) = server_print_lem 1 [] s
-  flat_print_lem (means.ptp means.ieee802-1as-2011 s) = server_print_lem 2 [] s
+  flat_print_lem (means.ptp means.ieee1588_2002 s) = server_print_lem 0 [] s
+  flat_print_lem (means.ptp means.ieee1588_2008 s) = server_print_lem 1 [] s
+  flat_print_lem (means.ptp means.ieee802_1as_2011 s) = server_print_lem 2 [] s
   flat_print_lem (means.ptp (means.own_version own) s) = server_print_lem 3 own s
   flat_print_lem means.gps = refl
   flat_print_lem means.gal = refl
   flat_print_lem means.glonass = refl
   flat_print_lem means.local = refl
-  flat_print_lem means.privateStandard = refl
-  flat_print_lem means.privateTraceable = refl
+  flat_print_lem means.private_standard = refl
+  flat_print_lem means.private_traceable = refl
   flat_print_lem (means.ref_ext n none) = refl
   flat_print_lem (means.ref_ext n (some v)) = refl
 

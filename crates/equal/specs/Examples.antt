@@ -9,7 +9,7 @@ use Rattle.clock.specs.Records.{ntp}
 use Rattle.clock.specs.declared.OptPort.TheVariants.{NoPort}
 use Rattle.clock.specs.declared.NtpServerAddr.TheVariants.{HostPort}
 use Rattle.clock.specs.declared.ReferenceClock.TheVariants.{Ntp}
-use Rattle.meaning.specs.Meaning.{RefMeaning, ref_meaning, ntp_host, ptp, own_version, ieee1588-2008, traceable, gmid, name, number, gps, gal, ref_ext}
+use Rattle.meaning.specs.Meaning.{RefMeaning, ref_meaning, ntp_host, ptp, own_version, ieee1588_2008, traceable, gmid, name, number, gps, gal, ref_ext}
 use Rattle.hostprint.specs.Mixed.{mixed, mixed_text}
 use Rattle.equal.specs.Fingerprint.{mixed_numbers, columns, fingerprint}
 use Rattle.equal.specs.Private.Flat.{clock_says, same_numbers, same_behind, alike_flat}
@@ -23,8 +23,8 @@ clocks : Each (λ (p : RefMeaning × RefMeaning). alike same p.0 p.1) (
     ∷ (ntp_host (word "h") none, ntp_host (word "h") (some 0)) gives false
     ∷ (ntp_host (word "h") none, ntp_host (word "H") none) gives false
     ∷ (ptp (own_version (word "V")) (gmid 7 none), ptp (own_version (word "V")) (gmid 7 none)) gives true
-    ∷ (ptp (own_version (word "V")) traceable, ptp ieee1588-2008 traceable) gives false
-    ∷ (ptp ieee1588-2008 (gmid 7 (some (number 5))), ptp ieee1588-2008 (gmid 7 (some (name (word "5"))))) gives false
+    ∷ (ptp (own_version (word "V")) traceable, ptp ieee1588_2008 traceable) gives false
+    ∷ (ptp ieee1588_2008 (gmid 7 (some (number 5))), ptp ieee1588_2008 (gmid 7 (some (name (word "5"))))) gives false
     ∷ (ref_ext (word "x") none, ref_ext (word "x") (some [])) gives false
     ∷ [])
 unfolding alike alike_flat same_behind same_numbers clock_says same
@@ -59,10 +59,10 @@ prints : Each (λ (p : RefMeaning × RefMeaning). eqb (printed p.0) (printed p.1
     (host_at (word "ntp=h", place 4 1), host_at (word "h", place 0 1)) gives true
     ∷ (ntp_host (word "h") none, ntp_host (word "g") none) gives false
     ∷ (ntp_host (word "h") none, ntp_host (word "h") (some 0)) gives false
-    ∷ (ptp ieee1588-2008 (gmid 7 none), ptp ieee1588-2008 (gmid 8 none)) gives false
-    ∷ (ptp ieee1588-2008 (gmid 7 none), ptp ieee1588-2008 (gmid 4294967303 none)) gives false
-    ∷ (ptp ieee1588-2008 (gmid 7 none), ptp ieee1588-2008 (gmid 7 (some (number 0)))) gives false
-    ∷ (ptp ieee1588-2008 (gmid 7 (some (number 5))), ptp ieee1588-2008 (gmid 7 (some (name (word "5"))))) gives false
+    ∷ (ptp ieee1588_2008 (gmid 7 none), ptp ieee1588_2008 (gmid 8 none)) gives false
+    ∷ (ptp ieee1588_2008 (gmid 7 none), ptp ieee1588_2008 (gmid 4294967303 none)) gives false
+    ∷ (ptp ieee1588_2008 (gmid 7 none), ptp ieee1588_2008 (gmid 7 (some (number 0)))) gives false
+    ∷ (ptp ieee1588_2008 (gmid 7 (some (number 5))), ptp ieee1588_2008 (gmid 7 (some (name (word "5"))))) gives false
     ∷ (ref_ext (word "x") none, ref_ext (word "x") (some [])) gives false
     ∷ (ref_ext (word "xy") (some (word "z")), ref_ext (word "x") (some (word "yz"))) gives false
     ∷ [])

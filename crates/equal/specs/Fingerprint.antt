@@ -34,16 +34,16 @@ unfoldable pub fingerprint : (List ℕ → ℕ) → RefMeaning → ℕ
 fingerprint print means.ntp_traceable = columns (print []) [] 0 0 0 0 0 []
 fingerprint print (means.ntp_host h none) = columns (print h) [] 1 0 0 0 0 []
 fingerprint print (means.ntp_host h (some port)) = columns (print h) [] 1 0 (suc port) 0 0 []
-fingerprint print (means.ptp means.ieee1588-2002 s) = server_print (print []) 0 [] s
-fingerprint print (means.ptp means.ieee1588-2008 s) = server_print (print []) 1 [] s
-fingerprint print (means.ptp means.ieee802-1as-2011 s) = server_print (print []) 2 [] s
+fingerprint print (means.ptp means.ieee1588_2002 s) = server_print (print []) 0 [] s
+fingerprint print (means.ptp means.ieee1588_2008 s) = server_print (print []) 1 [] s
+fingerprint print (means.ptp means.ieee802_1as_2011 s) = server_print (print []) 2 [] s
 fingerprint print (means.ptp (means.own_version own) s) = server_print (print []) 3 own s
 fingerprint print means.gps = columns (print []) [] 3 0 0 0 0 []
 fingerprint print means.gal = columns (print []) [] 4 0 0 0 0 []
 fingerprint print means.glonass = columns (print []) [] 5 0 0 0 0 []
 fingerprint print means.local = columns (print []) [] 6 0 0 0 0 []
-fingerprint print means.privateStandard = columns (print []) [] 7 0 0 0 0 []
-fingerprint print means.privateTraceable = columns (print []) [] 8 0 0 0 0 []
+fingerprint print means.private_standard = columns (print []) [] 7 0 0 0 0 []
+fingerprint print means.private_traceable = columns (print []) [] 8 0 0 0 0 []
 fingerprint print (means.ref_ext name none) = columns (print []) name 9 0 0 0 0 []
 fingerprint print (means.ref_ext name (some value)) = columns (print []) name 9 0 1 0 0 value
 

@@ -1,14 +1,14 @@
 -- Whether a text is an IP address does not depend on the case of its letters. Assumes nothing.
 use Prim.Native.Nat.{ℕ, zero, suc, ◌+◌, ◌≤◌, ◌<◌}
-use mathlib.Core.Path.{◌≡◌, refl, sym, ap, ◌∙◌}
-use mathlib.Core.Bool.{Bool, true, false, ◌&&◌, ◌||◌, and-false, or-false}
+use mathlib.Core.Path.{◌≡◌, refl, sym, ◌∙◌}
+use mathlib.Core.Bool.{Bool, true, false, ◌||◌, and-false, or-false}
 use mathlib.Core.List.{List, [], ◌∷◌, map}
 use native.Mathlib.Omega.{arith}
 use lib.Dec.{leb}
 use borrow.Author.Tests.{le-leb, lt-leb, leb-true}
 use Rattle.text.proofs.Bools.{by_bool, both_ways, and_left, and_right}
 use Rattle.number.specs.Hex.{between}
-use Rattle.abnf.specs.Rule.{Rule, nothing, range, ◌or◌, ◌then◌, maybe, times, upto}
+use Rattle.abnf.specs.Rule.{Rule, nothing, range, ◌or◌, ◌then◌, times, upto}
 use Rattle.ipaddr.specs.Address.{hexdig, dec_octet, ipv4address, h16, h16colon, double_colon, ls32, ipv6address, ip_address}
 use Rattle.hosts.specs.Server.{lower, folded}
 

@@ -1,6 +1,6 @@
 -- What naming one server owes. `proofs/Owed.antt` proves each of these statements.
 use Rattle.std.specs.Prelude.{ℕ, ◌≡◌, ◌↔◌, List, true, false}
-use Rattle.std.proofs.Math.Option.{Option, none, some}
+use Rattle.std.proofs.Math.Option.{none, some}
 use Rattle.ipaddr.specs.Address.{ip_address}
 use Rattle.ipaddr.specs.Number.{Address, ip_address_of}
 use Rattle.hosts.specs.Server.{folded, one_server}

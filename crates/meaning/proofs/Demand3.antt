@@ -20,7 +20,7 @@ use Rattle.meaning.specs.Inside.{reference_clock_inside, media_clock_source_insi
 use Rattle.meaning.specs.Written.{written_reference_clock, written_media_clock_source}
 use Rattle.meaning.specs.Demand3.{RefGiven, RefWritten, RefReadBack, RefReadsBack, RefTexts}
 use Rattle.meaning.specs.Demand3.{MediaGiven, MediaWritten, MediaReadBack, MediaReadsBack, MediaTexts}
-use Rattle.meaning.proofs.Told.{Accepted, was_accepted, was_made}
+use Rattle.meaning.proofs.Told.{was_accepted, was_made}
 use Rattle.meaning.proofs.Spelling.{bare_lawful}
 use Rattle.meaning.proofs.Reference.{read_back, ref_fits, ref_inside, ref_short, ref_back, ref_texts}
 use Rattle.meaning.proofs.Media.{media_inside_lem, media_short, media_back_lem, media_same, media_texts}

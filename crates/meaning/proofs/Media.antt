@@ -34,7 +34,7 @@ use Rattle.mediarecord.specs.declared.MediaClock.TheVariants as clock
 use Rattle.mediarecord.specs.declared.MediaClockSource.{MediaClockSource}
 use Rattle.meaning.specs.Answer.{Answer, accepted, ◌>>=◌, empty, extension_of}
 use Rattle.meaning.specs.MediaClock.{direct_of, stream_or, stream_of, media_clock_of, tag_of, id_of, tagged_of, source_of, media_clock_source_of}
-use Rattle.meaning.specs.Meaning.{Tag, plainTag, srcTag, media_ext, SourceMeaning, id_means, media_means, media_meaning}
+use Rattle.meaning.specs.Meaning.{Tag, plain_tag, src_tag, media_ext, SourceMeaning, id_means, media_means, media_meaning}
 use Rattle.meaning.specs.Text.{tag_text, id_text, media_text, source_meaning_text, media_clock_source_text}
 use Rattle.meaning.specs.Inside.{id_inside, media_inside, media_clock_source_inside}
 use Rattle.meaning.proofs.Told.{was_accepted, starts_cut, starts_length, Told, was_made, was_made_of_two, as_read, guarded_well, cut, joined}
@@ -112,7 +112,7 @@ module _ (v : List ℕ) (at : ℕ) (s : List ℕ) where
 
 -- an id: its tag is written as it was read
 abbrev tag : List ℕ → Tag
-tag x = cond (starts (word "src:") x) (srcTag (drop 4 x)) (plainTag x)
+tag x = cond (starts (word "src:") x) (src_tag (drop 4 x)) (plain_tag x)
 
 tag_text_lem : (x : List ℕ) → tag_text (tag x) ≡ x
 tag_text_lem x = by_bool (starts (word "src:") x) (λ e. simp e (starts_cut (word "src:") x e)) (λ e. simp e)

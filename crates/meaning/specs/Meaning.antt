@@ -33,7 +33,7 @@ use Rattle.mediarecord.specs.declared.MediaClockSource.{MediaClockSource}
 
 -- ts-refclk
 pub data Version : Type 0 where
-  ieee1588-2002 ieee1588-2008 ieee802-1as-2011 : Version
+  ieee1588_2002 ieee1588_2008 ieee802_1as_2011 : Version
   own_version : List ℕ → Version
 
 pub data Domain : Type 0 where
@@ -49,14 +49,14 @@ pub data RefMeaning : Type 0 where
   ntp_host : List ℕ → Option ℕ → RefMeaning
   ptp : Version → Server → RefMeaning
   gps gal glonass local : RefMeaning
-  privateStandard privateTraceable : RefMeaning
+  private_standard private_traceable : RefMeaning
   ref_ext : List ℕ → Option (List ℕ) → RefMeaning
 
 module _ (v : List ℕ) where
   abbrev pub version_means : PtpVersion → Version
-  version_means version.Ieee1588_2002 = ieee1588-2002
-  version_means version.Ieee1588_2008 = ieee1588-2008
-  version_means version.Ieee8021As_2011 = ieee802-1as-2011
+  version_means version.Ieee1588_2002 = ieee1588_2002
+  version_means version.Ieee1588_2008 = ieee1588_2008
+  version_means version.Ieee8021As_2011 = ieee802_1as_2011
   version_means (version.Ext p) = own_version (bytes_at p v)
 
   abbrev pub domain_means : PtpDomain → Domain
@@ -83,9 +83,9 @@ module _ (v : List ℕ) where
   value_means NoValue = none
   value_means (SomeValue p) = some (bytes_at p v)
 
-  abbrev pub privateMeans : PrivateSource → RefMeaning
-  privateMeans private.Standard = privateStandard
-  privateMeans private.Traceable = privateTraceable
+  abbrev pub private_means : PrivateSource → RefMeaning
+  private_means private.Standard = private_standard
+  private_means private.Traceable = private_traceable
 
   unfoldable pub ref_meaning : ReferenceClock → RefMeaning
   ref_meaning (clock.Ntp n) = ntp_means n.server
@@ -94,7 +94,7 @@ module _ (v : List ℕ) where
   ref_meaning clock.Gal = gal
   ref_meaning clock.Glonass = glonass
   ref_meaning clock.Local = local
-  ref_meaning (clock.Private p) = privateMeans p
+  ref_meaning (clock.Private p) = private_means p
   ref_meaning (clock.Ext e) = ref_ext (bytes_at e.name v) (value_means e.value)
 
 -- mediaclk
@@ -103,7 +103,7 @@ pub data Ratio : Type 0 where
   ratio : ℕ → ℕ → Ratio
 
 pub data Tag : Type 0 where
-  plainTag srcTag : List ℕ → Tag
+  plain_tag src_tag : List ℕ → Tag
 
 pub data MediaMeaning : Type 0 where
   sender : MediaMeaning
@@ -125,7 +125,7 @@ rate_means (SomeRate r) = some (ratio r.numerator r.denominator)
 module _ (v : List ℕ) where
   abbrev pub id_means : OptId → Option Tag
   id_means NoId = none
-  id_means (SomeId d) = some (cond d.src (srcTag (bytes_at d.tag v)) (plainTag (bytes_at d.tag v)))
+  id_means (SomeId d) = some (cond d.src (src_tag (bytes_at d.tag v)) (plain_tag (bytes_at d.tag v)))
 
   abbrev pub media_means : MediaClock → MediaMeaning
   media_means media.Sender = sender

@@ -9,9 +9,9 @@ use Rattle.ipaddr.specs.Address.{ip_address}
 use Rattle.clock.specs.declared.ReferenceClock.{ReferenceClock}
 use Rattle.mediarecord.specs.declared.MediaClockSource.{MediaClockSource}
 use Rattle.meaning.specs.Domain.{Spelling, bare}
-use Rattle.meaning.specs.Meaning.{Version, ieee1588-2002, ieee1588-2008, ieee802-1as-2011, own_version, Domain, Server, gmid, traceable}
-use Rattle.meaning.specs.Meaning.{RefMeaning, ntp_traceable, ntp_host, ptp, gps, gal, glonass, local, privateStandard, privateTraceable, ref_ext}
-use Rattle.meaning.specs.Meaning.{ref_meaning, Ratio, ratio, Tag, plainTag, srcTag, MediaMeaning, sender, direct, stream, media_ext}
+use Rattle.meaning.specs.Meaning.{Version, ieee1588_2002, ieee1588_2008, ieee802_1as_2011, own_version, Domain, Server, gmid, traceable}
+use Rattle.meaning.specs.Meaning.{RefMeaning, ntp_traceable, ntp_host, ptp, gps, gal, glonass, local, private_standard, private_traceable, ref_ext}
+use Rattle.meaning.specs.Meaning.{ref_meaning, Ratio, ratio, Tag, plain_tag, src_tag, MediaMeaning, sender, direct, stream, media_ext}
 use Rattle.meaning.specs.Meaning.{SourceMeaning, media_source, media_meaning}
 
 -- "=" and a value, where there is one
@@ -20,9 +20,9 @@ value_text none = []
 value_text (some x) = 61 ∷ x
 
 abbrev pub version_text : Version → List ℕ
-version_text ieee1588-2002 = word "IEEE1588-2002"
-version_text ieee1588-2008 = word "IEEE1588-2008"
-version_text ieee802-1as-2011 = word "IEEE802.1AS-2011"
+version_text ieee1588_2002 = word "IEEE1588-2002"
+version_text ieee1588_2008 = word "IEEE1588-2008"
+version_text ieee802_1as_2011 = word "IEEE802.1AS-2011"
 version_text (own_version x) = x
 
 abbrev pub has_colon : List ℕ → Bool
@@ -50,8 +50,8 @@ module _ (spelling : Spelling) where
   ref_meaning_text gal = word "gal"
   ref_meaning_text glonass = word "glonass"
   ref_meaning_text local = word "local"
-  ref_meaning_text privateStandard = word "private"
-  ref_meaning_text privateTraceable = word "private:traceable"
+  ref_meaning_text private_standard = word "private"
+  ref_meaning_text private_traceable = word "private:traceable"
   ref_meaning_text (ref_ext n x) = n ++ value_text x
 
 -- the text of a record over its value
@@ -60,8 +60,8 @@ reference_clock_text v c = ref_meaning_text bare (ref_meaning v c)
 
 -- mediaclk
 abbrev pub tag_text : Tag → List ℕ
-tag_text (plainTag x) = x
-tag_text (srcTag x) = word "src:" ++ x
+tag_text (plain_tag x) = x
+tag_text (src_tag x) = word "src:" ++ x
 
 abbrev pub id_text : Option Tag → List ℕ
 id_text none = []
@@ -97,6 +97,6 @@ in_class gps = false
 in_class gal = false
 in_class glonass = false
 in_class local = false
-in_class privateStandard = false
-in_class privateTraceable = false
+in_class private_standard = false
+in_class private_traceable = false
 in_class (ref_ext n x) = false

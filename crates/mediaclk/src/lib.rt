@@ -98,8 +98,8 @@ fn read_behind_id(p: &[u8], at: usize, id: OptId) -> MediaClockSourceRead
 
 // Behind `id=`: the id up to the first space.
 fn read_tagged(v: &[u8]) -> FrontRead
-    requires v_len_bound { length v.now ≤ 1024 }
-    requires v_value { starts (word "id=") v.now ≡ true }
+    requires short { length v.now ≤ 1024 }
+    requires tagged { starts (word "id=") v.now ≡ true }
     ensures { Fronts v.now result }
 {
     let n = v.len();

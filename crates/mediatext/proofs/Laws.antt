@@ -24,7 +24,7 @@ use Rattle.mediarecord.specs.declared.MediaClockSource.{MediaClockSource}
 use Rattle.text.specs.Word.{word}
 use Rattle.number.specs.Decimal.{decimal}
 use Rattle.eui64.specs.Eui64.{eui64_text}
-use Rattle.meaning.specs.Meaning.{srcTag, plainTag, direct, value_means, offset_means, rate_means, id_means, media_means, media_meaning}
+use Rattle.meaning.specs.Meaning.{src_tag, plain_tag, direct, value_means, offset_means, rate_means, id_means, media_means, media_meaning}
 use Rattle.meaning.specs.Text.{value_text, tag_text, id_text, offset_text, rate_text, media_text, source_meaning_text, media_clock_source_text}
 use Rattle.room.specs.Put.{Put}
 use Rattle.room.proofs.Laws.{put_none, put_then, put_wider}
@@ -33,11 +33,11 @@ use Rattle.room.proofs.Laws.{put_none, put_then, put_wider}
 module _ (v : List ℕ) {l : List ℕ} {at : ℕ} where
   module _ (src : Bool) (tag : Place) where
     pub tag_src : {next last : ℕ} {m r : List ℕ} → src ≡ true → Put 4 l at (word "src:") next m → Put (length v) m next (bytes_at tag v) last r
-        → Put (length v + 4) l at (tag_text (cond src (srcTag (bytes_at tag v)) (plainTag (bytes_at tag v)))) last r
+        → Put (length v + 4) l at (tag_text (cond src (src_tag (bytes_at tag v)) (plain_tag (bytes_at tag v)))) last r
     tag_src e f g = rw e (put_wider (put_then f g) (omega arith))
 
     pub tag_plain : {last : ℕ} {r : List ℕ} → src ≡ false → Put (length v) l at (bytes_at tag v) last r
-        → Put (length v + 4) l at (tag_text (cond src (srcTag (bytes_at tag v)) (plainTag (bytes_at tag v)))) last r
+        → Put (length v + 4) l at (tag_text (cond src (src_tag (bytes_at tag v)) (plain_tag (bytes_at tag v)))) last r
     tag_plain e f = rw e (put_wider f (omega arith))
 
   module _ (x : OptId) where
@@ -45,7 +45,7 @@ module _ (v : List ℕ) {l : List ℕ} {at : ℕ} where
     id_none e h k = rw e (put_wider (put_none l at h k) (omega arith))
 
     pub id_some : {a b last : ℕ} {m n r : List ℕ} (d : MediaClockId) → x ≡ SomeId d → Put 3 l at (word "id=") a m
-        → Put (length v + 4) m a (tag_text (cond d.src (srcTag (bytes_at d.tag v)) (plainTag (bytes_at d.tag v)))) b n
+        → Put (length v + 4) m a (tag_text (cond d.src (src_tag (bytes_at d.tag v)) (plain_tag (bytes_at d.tag v)))) b n
         → Put 1 n b (32 ∷ []) last r
         → Put (length v + 8) l at (id_text (id_means v x)) last r
     id_some d e f g h = rw e (put_wider (put_then f (put_then g h)) (omega arith))

@@ -4,7 +4,7 @@
 
 ghost use Rattle.std.specs.Prelude.{cond, ◌+◌, ◌*◌, length};
 ghost use Rattle.text.specs.Place.{bytes_at};
-ghost use Rattle.meaning.specs.Meaning.{srcTag, plainTag, direct, offset_means, rate_means, id_means, media_means};
+ghost use Rattle.meaning.specs.Meaning.{src_tag, plain_tag, direct, offset_means, rate_means, id_means, media_means};
 ghost use Rattle.meaning.specs.Text.{offset_text, rate_text, id_text, tag_text, media_text, media_clock_source_text};
 ghost use Rattle.room.specs.Put.{Put};
 
@@ -14,7 +14,7 @@ use text::Place;
 // `src:` where it is there, and the tag.
 fn put_tag(room: &mut [u8], at: usize, value: &[u8], src: bool, tag: Place) -> usize
     ensures { Put (length value.now + 4) room.old at
-        (tag_text (cond src (srcTag (bytes_at tag value.now)) (plainTag (bytes_at tag value.now)))) result room.new }
+        (tag_text (cond src (src_tag (bytes_at tag value.now)) (plain_tag (bytes_at tag value.now)))) result room.new }
 {
     if src {
         let to = room::put_bytes(room, at, b"src:");

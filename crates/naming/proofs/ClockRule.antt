@@ -1,11 +1,9 @@
 -- The rule by which values name clocks is there, and lawful. Assumes nothing.
 use Prim.Native.Nat.{ℕ}
 use mathlib.Core.Path.{◌≡◌, refl, sym, ap, ◌∙◌}
-use mathlib.Core.List.{List}
-use mathlib.Core.Bool.{Bool, true, false}
+use mathlib.Core.Bool.{true, false}
 use mathlib.Core.Option.{Option, none, some}
 use Rattle.text.proofs.Bools.{clash}
-use Rattle.clock.specs.declared.OptDomain.{OptDomain}
 use Rattle.clock.specs.declared.OptDomain.TheVariants.{NoDomain, SomeDomain}
 use Rattle.clock.specs.declared.PtpDomain.TheVariants.{DomainName, DomainNumber}
 use Rattle.clock.specs.declared.PtpServer.{PtpServer}
@@ -24,9 +22,9 @@ use Rattle.equal.specs.Alike.{Hosts, OneClock, equal, servers}
 use Rattle.questions.specs.SameClock.{SameClock}
 use Rattle.questions.specs.Private.Test.{same_clock}
 use Rattle.questions.proofs.Owed.{same_clock_decides, same_classes}
-use Rattle.streams.specs.Rule.{Value, Rule, Lawful}
-use Rattle.naming.specs.Domain.{number_in, server_domain, domain_in, read_domain, domain_of}
-use Rattle.naming.specs.ClockRule.{is_accepted, ClockRule, ThereIs, IsLawful}
+use Rattle.streams.specs.Rule.{Value}
+use Rattle.naming.specs.Domain.{server_domain, domain_in, read_domain, domain_of}
+use Rattle.naming.specs.ClockRule.{is_accepted, ThereIs, IsLawful}
 
 -- the domain number, told from what a record means
 abbrev domain_meant : Option Domain → Option ℕ
@@ -46,8 +44,8 @@ clock_meant means.gps = none
 clock_meant means.gal = none
 clock_meant means.glonass = none
 clock_meant means.local = none
-clock_meant means.privateStandard = none
-clock_meant means.privateTraceable = none
+clock_meant means.private_standard = none
+clock_meant means.private_traceable = none
 clock_meant (means.ref_ext n v) = none
 
 server_meant_lem : (v : Value) (s : PtpServer) → server_domain s ≡ server_meant (server_means v s)

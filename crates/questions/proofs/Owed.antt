@@ -120,8 +120,8 @@ host_view means.gps = no_host refl refl
 host_view means.gal = no_host refl refl
 host_view means.glonass = no_host refl refl
 host_view means.local = no_host refl refl
-host_view means.privateStandard = no_host refl refl
-host_view means.privateTraceable = no_host refl refl
+host_view means.private_standard = no_host refl refl
+host_view means.private_traceable = no_host refl refl
 host_view (means.ref_ext name value) = no_host refl refl
 
 -- and by nothing more

@@ -47,8 +47,8 @@ host_in means.gps = none
 host_in means.gal = none
 host_in means.glonass = none
 host_in means.local = none
-host_in means.privateStandard = none
-host_in means.privateTraceable = none
+host_in means.private_standard = none
+host_in means.private_traceable = none
 host_in (means.ref_ext name value) = none
 
 -- the record with no bytes for its host
@@ -60,8 +60,8 @@ without_host means.gps = means.gps
 without_host means.gal = means.gal
 without_host means.glonass = means.glonass
 without_host means.local = means.local
-without_host means.privateStandard = means.privateStandard
-without_host means.privateTraceable = means.privateTraceable
+without_host means.private_standard = means.private_standard
+without_host means.private_traceable = means.private_traceable
 without_host (means.ref_ext name value) = means.ref_ext name value
 
 -- both values are accepted, and the records are equal but for hosts, which are alike

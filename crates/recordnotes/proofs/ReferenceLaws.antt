@@ -30,7 +30,7 @@ use Rattle.clock.specs.declared.ReferenceClock.TheVariants as clock
 use Rattle.room.specs.Put.{Put}
 use Rattle.room.proofs.Laws.{put_then, put_wider}
 use Rattle.recordnotes.specs.Notation.{place_note, extension_note, port_note, ntp_note, version_note, domain_note}
-use Rattle.recordnotes.specs.Notation.{opt_domain_note, server_note, ptp_note, privateNote, reference_clock_note}
+use Rattle.recordnotes.specs.Notation.{opt_domain_note, server_note, ptp_note, private_note, reference_clock_note}
 
 module _ {l : List ℕ} {at last : ℕ} {r : List ℕ} where
   -- `put_port`
@@ -97,11 +97,11 @@ module _ {l : List ℕ} {at last : ℕ} {r : List ℕ} where
 
   -- `put_private`
   module _ (x : PrivateSource) where
-    pub private-standard : x ≡ private.Standard → Put 7 l at (word "private") last r → Put 17 l at (privateNote x) last r
-    private-standard e f = rw e (put_wider f (omega arith))
+    pub private_standard_lem : x ≡ private.Standard → Put 7 l at (word "private") last r → Put 17 l at (private_note x) last r
+    private_standard_lem e f = rw e (put_wider f (omega arith))
 
-    pub private-traceable : x ≡ private.Traceable → Put 17 l at (word "private traceable") last r → Put 17 l at (privateNote x) last r
-    private-traceable e f = rw e f
+    pub private_traceable_lem : x ≡ private.Traceable → Put 17 l at (word "private traceable") last r → Put 17 l at (private_note x) last r
+    private_traceable_lem e f = rw e f
 
   -- `note_reference_clock`
   module _ (x : ReferenceClock) where
@@ -130,7 +130,7 @@ module _ {l : List ℕ} {at last : ℕ} {r : List ℕ} where
     unfolding reference_clock_note
     clock_local e f = rw e (put_wider f (omega arith))
 
-    pub clock_private : (p : PrivateSource) → x ≡ clock.Private p → Put 17 l at (privateNote p) last r → Put 109 l at (reference_clock_note x) last r
+    pub clock_private : (p : PrivateSource) → x ≡ clock.Private p → Put 17 l at (private_note p) last r → Put 109 l at (reference_clock_note x) last r
     unfolding reference_clock_note
     clock_private p e f = rw e (put_wider f (omega arith))
 
@@ -155,8 +155,8 @@ pub ruleset laws = (
   server_traceable,
   server_gmid,
   ptp_put,
-  private-standard,
-  private-traceable,
+  private_standard_lem,
+  private_traceable_lem,
   clock_ntp,
   clock_ptp,
   clock_gps,

@@ -76,9 +76,9 @@ server_note (source.GmidDomain gmid domain) = eui64_note gmid.id ++ word " " ++ 
 abbrev pub ptp_note : PtpVersion → PtpServer → List ℕ
 ptp_note v s = word "ptp " ++ version_note v ++ word " " ++ server_note s
 
-abbrev pub privateNote : PrivateSource → List ℕ
-privateNote private.Standard = word "private"
-privateNote private.Traceable = word "private traceable"
+abbrev pub private_note : PrivateSource → List ℕ
+private_note private.Standard = word "private"
+private_note private.Traceable = word "private traceable"
 
 unfoldable pub reference_clock_note : ReferenceClock → List ℕ
 reference_clock_note (clock.Ntp n) = ntp_note n.server
@@ -87,7 +87,7 @@ reference_clock_note clock.Gps = word "gps"
 reference_clock_note clock.Gal = word "gal"
 reference_clock_note clock.Glonass = word "glonass"
 reference_clock_note clock.Local = word "local"
-reference_clock_note (clock.Private p) = privateNote p
+reference_clock_note (clock.Private p) = private_note p
 reference_clock_note (clock.Ext e) = extension_note e.name e.value
 
 -- mediaclk

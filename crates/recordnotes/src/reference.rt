@@ -1,7 +1,7 @@
 // The notation of a ts-refclk record. A local that holds a place in the room is named by what is put there.
 ghost use Rattle.room.specs.Put.{Put};
 ghost use Rattle.recordnotes.specs.Notation.{port_note, ntp_note, version_note, domain_note, opt_domain_note};
-ghost use Rattle.recordnotes.specs.Notation.{server_note, ptp_note, privateNote, reference_clock_note};
+ghost use Rattle.recordnotes.specs.Notation.{server_note, ptp_note, private_note, reference_clock_note};
 
 use crate::parts;
 use clock::{
@@ -90,7 +90,7 @@ fn put_ptp(room: &mut [u8], at: usize, version: PtpVersion, server: PtpServer) -
 }
 
 fn put_private(room: &mut [u8], at: usize, source: PrivateSource) -> usize
-    ensures { Put 17 room.old at (privateNote source) result room.new }
+    ensures { Put 17 room.old at (private_note source) result room.new }
 {
     match source {
         PrivateSource::Standard => room::put_bytes(room, at, b"private"),

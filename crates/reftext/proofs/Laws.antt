@@ -34,7 +34,7 @@ use Rattle.clock.specs.declared.ClockSourceExt.{ClockSourceExt}
 use Rattle.clock.specs.declared.ReferenceClock.{ReferenceClock}
 use Rattle.clock.specs.declared.ReferenceClock.TheVariants as clock
 use Rattle.meaning.specs.Domain.{bare, bare_text}
-use Rattle.meaning.specs.Meaning.{ptp, version_means, domain_means, opt_domain_means, server_means, port_means, ntp_means, value_means, privateMeans, ref_meaning}
+use Rattle.meaning.specs.Meaning.{ptp, version_means, domain_means, opt_domain_means, server_means, port_means, ntp_means, value_means, private_means, ref_meaning}
 use Rattle.meaning.specs.Text.{version_text, domain_text, server_text, host_text, value_text, ref_meaning_text, reference_clock_text}
 use Rattle.room.specs.Put.{Put}
 use Rattle.room.proofs.Laws.{put_none, put_then, put_wider}
@@ -147,14 +147,14 @@ module _ (v : List ℕ) {l : List ℕ} {at last : ℕ} {r : List ℕ} where
 
   -- `put_private`
   module _ (x : PrivateSource) where
-    pub private-standard : x ≡ private.Standard → Put 7 l at (word "private") last r → Put 17 l at (ref_meaning_text bare (privateMeans v x)) last r
+    pub private_standard_lem : x ≡ private.Standard → Put 7 l at (word "private") last r → Put 17 l at (ref_meaning_text bare (private_means v x)) last r
     unfolding ref_meaning_text
-    private-standard e f = rw e (put_wider f (omega arith))
+    private_standard_lem e f = rw e (put_wider f (omega arith))
 
-    pub private-traceable : x ≡ private.Traceable → Put 17 l at (word "private:traceable") last r
-        → Put 17 l at (ref_meaning_text bare (privateMeans v x)) last r
+    pub private_traceable_lem : x ≡ private.Traceable → Put 17 l at (word "private:traceable") last r
+        → Put 17 l at (ref_meaning_text bare (private_means v x)) last r
     unfolding ref_meaning_text
-    private-traceable e f = rw e f
+    private_traceable_lem e f = rw e f
 
   -- `put_clock`
   module _ (c : ReferenceClock) where
@@ -185,7 +185,7 @@ module _ (v : List ℕ) {l : List ℕ} {at last : ℕ} {r : List ℕ} where
     unfolding reference_clock_text ref_meaning ref_meaning_text
     clock_local e f = rw e (put_wider f (omega arith))
 
-    pub clock_private : (p : PrivateSource) → c ≡ clock.Private p → Put 17 l at (ref_meaning_text bare (privateMeans v p)) last r
+    pub clock_private : (p : PrivateSource) → c ≡ clock.Private p → Put 17 l at (ref_meaning_text bare (private_means v p)) last r
         → Put (2 * length v + 55) l at (reference_clock_text v c) last r
     unfolding reference_clock_text ref_meaning
     clock_private p e f = rw e (put_wider f (omega arith))
@@ -216,8 +216,8 @@ pub ruleset laws = (
   server_gmid,
   server_traceable,
   ptp_put,
-  private-standard,
-  private-traceable,
+  private_standard_lem,
+  private_traceable_lem,
   clock_ntp,
   clock_ptp,
   clock_gps,

@@ -7,7 +7,7 @@ ghost use Rattle.std.proofs.Math.Option.{some};
 ghost use Rattle.text.specs.Word.{word};
 ghost use Rattle.number.specs.Decimal.{decimal};
 ghost use Rattle.meaning.specs.Domain.{bare};
-ghost use Rattle.meaning.specs.Meaning.{ptp, version_means, domain_means, opt_domain_means, server_means, port_means, ntp_means, privateMeans};
+ghost use Rattle.meaning.specs.Meaning.{ptp, version_means, domain_means, opt_domain_means, server_means, port_means, ntp_means, private_means};
 ghost use Rattle.meaning.specs.Text.{version_text, domain_text, server_text, host_text, ref_meaning_text, reference_clock_text};
 ghost use Rattle.room.specs.Put.{Put};
 
@@ -37,7 +37,7 @@ fn put_host_and_port(room: &mut [u8], at: usize, host: &[u8], port: u16) -> usiz
     put_port(room, colon, port)
 }
 
-// `port_means` and `privateMeans` take a value and do not look at it.
+// `port_means` and `private_means` take a value and do not look at it.
 fn put_host(room: &mut [u8], at: usize, host: &[u8], port: OptPort) -> usize
     ensures { Put (length host.now + 13) room.old at
         (host_text host.now (port_means host.now port)) result room.new }
@@ -135,7 +135,7 @@ fn put_ptp(
 }
 
 fn put_private(room: &mut [u8], at: usize, source: PrivateSource) -> usize
-    ensures { Put 17 room.old at (ref_meaning_text bare (privateMeans [] source)) result room.new }
+    ensures { Put 17 room.old at (ref_meaning_text bare (private_means [] source)) result room.new }
 {
     match source {
         PrivateSource::Standard => room::put_bytes(room, at, b"private"),

@@ -20,8 +20,8 @@ use Rattle.rfc7273.specs.Grammar.{tag, mediaclk_of}
 use Rattle.rfc7273.specs.Grammar as rule
 use Rattle.rfc7273.specs.Means.{HostText, hostname_text, ipv4_text, ipv6_text, HostportText, without_port, with_port, VersionText, text_2002}
 use Rattle.rfc7273.specs.Means.{text_2008, text_2011, token_text, ServerText, gmid_text, traceable_text, ExtText, without_value, with_value}
-use Rattle.rfc7273.specs.Means.{RefText, ntp_text_lem, ntp_traceable_text, ptp_text, gps_text, gal_text, glonass_text, local_text, private-text}
-use Rattle.rfc7273.specs.Means.{private-traceable-text, ref_ext_text, OffsetText, without_offset, with_offset_lem, RateText, without_rate}
+use Rattle.rfc7273.specs.Means.{RefText, ntp_text_lem, ntp_traceable_text, ptp_text, gps_text, gal_text, glonass_text, local_text, private_text}
+use Rattle.rfc7273.specs.Means.{private_traceable_text, ref_ext_text, OffsetText, without_offset, with_offset_lem, RateText, without_rate}
 use Rattle.rfc7273.specs.Means.{with_rate_lem, MediaText, sender_text, direct_text, stream_text, media_ext_text, TagText, plain_text, src_text}
 use Rattle.rfc7273.specs.Means.{SourceText, untagged_text, tagged_text}
 use Rattle.rfc7273.specs.Taken.{Meant}
@@ -132,12 +132,12 @@ ptp_meant =
     let b = server_some s k in
     ref (ptp_text x s a.0 b.0 a.1 b.1)) y))
 
-private-meant : (s : List ℕ) → rule.private narrowed s ≡ true → Ref kind.private s
+private_meant : (s : List ℕ) → rule.private narrowed s ≡ true → Ref kind.private s
 unfolding rule.private
-private-meant =
+private_meant =
     of_quoted_then (Ref kind.private) (maybe (quoted narrowed ":traceable")) "private"
-    (of_maybe (λ y. Ref kind.private (word "private" ++ y)) (ref private-text)
-    (of_quoted (λ y. Ref kind.private (word "private" ++ y)) ":traceable" (ref private-traceable-text)))
+    (of_maybe (λ y. Ref kind.private (word "private" ++ y)) (ref private_text)
+    (of_quoted (λ y. Ref kind.private (word "private" ++ y)) ":traceable" (ref private_traceable_text)))
 
 ref_ext_meant : (s : List ℕ) → clksrc_ext narrowed s ≡ true → Ref kind.ref_ext s
 unfolding clksrc_ext
@@ -153,7 +153,7 @@ ref_meant kind.gps = of_quoted (Ref kind.gps) "gps" (ref gps_text)
 ref_meant kind.gal = of_quoted (Ref kind.gal) "gal" (ref gal_text)
 ref_meant kind.glonass = of_quoted (Ref kind.glonass) "glonass" (ref glonass_text)
 ref_meant kind.local = of_quoted (Ref kind.local) "local" (ref local_text)
-ref_meant kind.private = private-meant
+ref_meant kind.private = private_meant
 ref_meant kind.ref_ext = ref_ext_meant
 
 -- a direct clock
@@ -247,15 +247,15 @@ source_meant (k with_id kind.no_id) =
       text = untagged_text s c.meaning c.text e;
       of_kind = ap (λ (k : MediaKind). k with_id kind.no_id) c.of_kind;
     })
-source_meant (k with_id kind.plainId) =
+source_meant (k with_id kind.plain_id) =
     of_then P (quoted narrowed "id=" then tag narrowed then sp) (mediaclock_of narrowed k) (λ x y h j.
     of_quoted_then (λ z. P (z ++ y)) (tag narrowed then sp) "id="
     (of_then (λ z. P (word "id=" ++ (z ++ y))) (tag narrowed) sp (λ u v l.
     of_byte (λ z. P (word "id=" ++ ((u ++ z) ++ y))) 32 (id_then k u y _ (plain_text u l) (media_meant k y j)) v)) x h)
   where
     P : List ℕ → Type 0
-    P = Source (k with_id kind.plainId)
-source_meant (k with_id kind.srcId) =
+    P = Source (k with_id kind.plain_id)
+source_meant (k with_id kind.src_id) =
     of_then P (quoted narrowed "id=" then quoted narrowed "src:" then tag narrowed then sp) (mediaclock_of narrowed k) (λ x y h j.
     of_quoted_then (λ z. P (z ++ y)) (quoted narrowed "src:" then tag narrowed then sp) "id="
     (of_quoted_then (λ z. P (word "id=" ++ (z ++ y))) (tag narrowed then sp) "src:"
@@ -264,4 +264,4 @@ source_meant (k with_id kind.srcId) =
     (id_then k (word "src:" ++ u) y _ (src_text u l) (media_meant k y j)) v))) x h)
   where
     P : List ℕ → Type 0
-    P = Source (k with_id kind.srcId)
+    P = Source (k with_id kind.src_id)

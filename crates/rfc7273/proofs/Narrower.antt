@@ -58,8 +58,8 @@ within_media kind.media_ext = search laws depth 20
 within_source : (k : SourceKind) → Within (mediaclk_of narrowed k) (mediaclk_of published k)
 unfolding tag
 within_source (k with_id kind.no_id) = within_only _ _ _ (within_media k)
-within_source (k with_id kind.plainId) = within_then (search laws depth 20) (within_media k)
-within_source (k with_id kind.srcId) = within_then (search laws depth 20) (within_media k)
+within_source (k with_id kind.plain_id) = within_then (search laws depth 20) (within_media k)
+within_source (k with_id kind.src_id) = within_then (search laws depth 20) (within_media k)
 
 pub source_narrower : (k : SourceKind) → Narrower (mediaclk_of narrowed k) (mediaclk_of published k)
 source_narrower k = (within_source k).within

@@ -26,7 +26,7 @@ use Rattle.rfc7273.specs.Manner.{narrowed, only_in}
 use Rattle.rfc7273.specs.Elsewhere.{token_char, token}
 use Rattle.rfc7273.specs.Grammar.{ext_bytes, ext_value, left_to_ref_ext}
 use Rattle.rfc7273.specs.Means.{ExtText, RefText, ntp_text_lem, ntp_traceable_text, ptp_text, gps_text, gal_text, glonass_text, local_text}
-use Rattle.rfc7273.specs.Means.{private-text, private-traceable-text, ref_ext_text}
+use Rattle.rfc7273.specs.Means.{private_text, private_traceable_text, ref_ext_text}
 use Rattle.rfc7273.specs.Taken.{RefReads}
 use Rattle.rfc7273.proofs.Laws.{not_so}
 use Rattle.rfc7273.proofs.Texts.{ext_text}
@@ -98,6 +98,6 @@ ref_read gps_text = whole (word "gps") clock.Gps refl refl
 ref_read gal_text = whole (word "gal") clock.Gal refl refl
 ref_read glonass_text = whole (word "glonass") clock.Glonass refl refl
 ref_read local_text = whole (word "local") clock.Local refl refl
-ref_read private-text = whole (word "private") (clock.Private private.Standard) refl refl
-ref_read private-traceable-text = whole (word "private:traceable") (clock.Private private.Traceable) refl refl
+ref_read private_text = whole (word "private") (clock.Private private.Standard) refl refl
+ref_read private_traceable_text = whole (word "private:traceable") (clock.Private private.Traceable) refl refl
 ref_read (ref_ext_text s n x t k) = as_extension s n x t k

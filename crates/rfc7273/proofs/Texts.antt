@@ -17,8 +17,8 @@ use Rattle.rfc7273.specs.Grammar.{eui64, ntp, ptp_version, ptp_server, ptp, priv
 use Rattle.rfc7273.specs.Grammar.{rate, sender, direct, stream, media_ext, mediaclock_of, tag, mediaclk_of}
 use Rattle.rfc7273.specs.Means.{HostText, hostname_text, ipv4_text, ipv6_text, HostportText, without_port, with_port, VersionText, text_2002}
 use Rattle.rfc7273.specs.Means.{text_2008, text_2011, token_text, ServerText, gmid_text, traceable_text, ExtText, without_value, with_value}
-use Rattle.rfc7273.specs.Means.{RefText, ntp_text_lem, ntp_traceable_text, ptp_text, gps_text, gal_text, glonass_text, local_text, private-text}
-use Rattle.rfc7273.specs.Means.{private-traceable-text, ref_ext_text, OffsetText, without_offset, with_offset_lem, RateText, without_rate}
+use Rattle.rfc7273.specs.Means.{RefText, ntp_text_lem, ntp_traceable_text, ptp_text, gps_text, gal_text, glonass_text, local_text, private_text}
+use Rattle.rfc7273.specs.Means.{private_traceable_text, ref_ext_text, OffsetText, without_offset, with_offset_lem, RateText, without_rate}
 use Rattle.rfc7273.specs.Means.{with_rate_lem, MediaText, sender_text, direct_text, stream_text, media_ext_text, TagText, plain_text, src_text}
 use Rattle.rfc7273.specs.Means.{SourceText, untagged_text, tagged_text}
 use Rattle.rfc7273.proofs.Laws.{then_empty, or_first, or_second, quoted_own, quoted_then, byte_then}
@@ -74,8 +74,8 @@ ref_text gps_text = quoted_own "gps"
 ref_text gal_text = quoted_own "gal"
 ref_text glonass_text = quoted_own "glonass"
 ref_text local_text = quoted_own "local"
-ref_text private-text = then_empty (quoted narrowed "private") (maybe (quoted narrowed ":traceable")) (word "private") (quoted_own "private") refl
-ref_text private-traceable-text = quoted_then "private" (maybe (quoted narrowed ":traceable")) (word ":traceable") (quoted_own ":traceable")
+ref_text private_text = then_empty (quoted narrowed "private") (maybe (quoted narrowed ":traceable")) (word "private") (quoted_own "private") refl
+ref_text private_traceable_text = quoted_then "private" (maybe (quoted narrowed ":traceable")) (word ":traceable") (quoted_own ":traceable")
 ref_text (ref_ext_text s n x k e) = both (ext_text k) e
 
 -- mediaclk

@@ -92,8 +92,8 @@ module _ (m : Manner) where
       of_then (λ z. P (z ++ y)) (quoted m "id=") (maybe (quoted m "src:") then tag_space) (λ u v hu.
       of_then (λ z. P ((u ++ z) ++ y)) (maybe (quoted m "src:")) tag_space (λ a b ha hb.
       of_maybe (λ z. P ((u ++ (z ++ b)) ++ y))
-      (c.0 with_id kind.plainId, then_join _ _ (u ++ b) y (then_join _ _ u b hu hb) c.1)
-      (λ z hz. (c.0 with_id kind.srcId, then_join _ _ (u ++ (z ++ b)) y (then_join _ _ u (z ++ b) hu (then_join _ _ z b hz hb)) c.1))
+      (c.0 with_id kind.plain_id, then_join _ _ (u ++ b) y (then_join _ _ u b hu hb) c.1)
+      (λ z hz. (c.0 with_id kind.src_id, then_join _ _ (u ++ (z ++ b)) y (then_join _ _ u (z ++ b) hu (then_join _ _ z b hz hb)) c.1))
       a ha) v) x h))
       (λ s h.
       let c = media_covered m s (only_first m (mediaclock m) left_to_no_id s h) in
@@ -117,8 +117,8 @@ module _ (m : Manner) where
             only_swap m (mediaclock_of m k) (mediaclock m) left_to_no_id s h
             ((media_covers m k).within s (only_first m (mediaclock_of m k) left_to_no_id s h));
       })
-  source_covers (k with_id kind.plainId) = left _ _ (within_then (within_then within_same (skip (quoted m "src:") (tag_space m))) (media_covers m k))
-  source_covers (k with_id kind.srcId) =
+  source_covers (k with_id kind.plain_id) = left _ _ (within_then (within_then within_same (skip (quoted m "src:") (tag_space m))) (media_covers m k))
+  source_covers (k with_id kind.src_id) =
       left _ _ (within_then (within_then within_same (within_then (right _ _ within_same) within_same)) (media_covers m k))
 
 -- a text is accepted as the kind of its meaning

@@ -145,5 +145,5 @@ module _ (m : Manner) where
 
   abbrev pub mediaclk_of : SourceKind → Rule
   mediaclk_of (k with_id kind.no_id) = mediaclock_of k only left_to_no_id
-  mediaclk_of (k with_id kind.plainId) = (text "id=" then tag then sp) then mediaclock_of k
-  mediaclk_of (k with_id kind.srcId) = (text "id=" then text "src:" then tag then sp) then mediaclock_of k
+  mediaclk_of (k with_id kind.plain_id) = (text "id=" then tag then sp) then mediaclock_of k
+  mediaclk_of (k with_id kind.src_id) = (text "id=" then text "src:" then tag then sp) then mediaclock_of k

@@ -26,8 +26,8 @@ ref_kind means.gps = gps
 ref_kind means.gal = gal
 ref_kind means.glonass = glonass
 ref_kind means.local = local
-ref_kind means.privateStandard = private
-ref_kind means.privateTraceable = private
+ref_kind means.private_standard = private
+ref_kind means.private_traceable = private
 ref_kind (means.ref_ext n x) = ref_ext
 
 abbrev pub ref_said : List ℕ → ReferenceClockRead → Says RefKind
@@ -39,7 +39,7 @@ ref_says s = ref_said s (read_reference_clock s)
 
 -- mediaclk: the kind of its id, and that of its clock
 pub data IdKind : Type 0 where
-  no_id plainId srcId : IdKind
+  no_id plain_id src_id : IdKind
 
 pub data MediaKind : Type 0 where
   sender direct stream media_ext : MediaKind
@@ -49,8 +49,8 @@ pub data SourceKind : Type 0 where
   ◌with_id◌ : MediaKind → IdKind → SourceKind
 
 abbrev pub tag_kind : Tag → IdKind
-tag_kind (means.plainTag t) = plainId
-tag_kind (means.srcTag t) = srcId
+tag_kind (means.plain_tag t) = plain_id
+tag_kind (means.src_tag t) = src_id
 
 abbrev pub id_kind : Option Tag → IdKind
 id_kind none = no_id

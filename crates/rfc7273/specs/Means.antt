@@ -7,9 +7,9 @@ use Rattle.abnf.specs.Rule.{Rule}
 use Rattle.number.specs.Decimal.{value_from}
 use Rattle.number.specs.Hex.{hex_digit}
 use Rattle.ipaddr.specs.Address.{ipv4address, ipv6address}
-use Rattle.meaning.specs.Meaning.{Version, ieee1588-2002, ieee1588-2008, ieee802-1as-2011, own_version, Server, gmid, traceable, RefMeaning}
-use Rattle.meaning.specs.Meaning.{ntp_traceable, ntp_host, ptp, gps, gal, glonass, local, privateStandard, privateTraceable, ref_ext, Ratio, ratio, Tag}
-use Rattle.meaning.specs.Meaning.{plainTag, srcTag, MediaMeaning, sender, direct, stream, media_ext, SourceMeaning, media_source}
+use Rattle.meaning.specs.Meaning.{Version, ieee1588_2002, ieee1588_2008, ieee802_1as_2011, own_version, Server, gmid, traceable, RefMeaning}
+use Rattle.meaning.specs.Meaning.{ntp_traceable, ntp_host, ptp, gps, gal, glonass, local, private_standard, private_traceable, ref_ext, Ratio, ratio, Tag}
+use Rattle.meaning.specs.Meaning.{plain_tag, src_tag, MediaMeaning, sender, direct, stream, media_ext, SourceMeaning, media_source}
 use Rattle.rfc7273.specs.Manner.{narrowed}
 use Rattle.rfc7273.specs.Elsewhere.{token, hostname, port}
 use Rattle.rfc7273.specs.Grammar.{eui64, left_to_ref_ext, left_to_media_ext, left_to_no_id, ext_bytes, offset, integer, tag}
@@ -35,9 +35,9 @@ abbrev pub other_version : Rule
 other_version s = not (same s (word "IEEE1588-2002") || (same s (word "IEEE1588-2008") || same s (word "IEEE802.1AS-2011")))
 
 pub data VersionText : List ℕ → Version → Type 0 where
-  text_2002 : VersionText (word "IEEE1588-2002") ieee1588-2002
-  text_2008 : VersionText (word "IEEE1588-2008") ieee1588-2008
-  text_2011 : VersionText (word "IEEE802.1AS-2011") ieee802-1as-2011
+  text_2002 : VersionText (word "IEEE1588-2002") ieee1588_2002
+  text_2008 : VersionText (word "IEEE1588-2008") ieee1588_2008
+  text_2011 : VersionText (word "IEEE802.1AS-2011") ieee802_1as_2011
   token_text : (s : List ℕ) → token s ≡ true → other_version s ≡ true → VersionText s (own_version s)
 
 -- ptp-server: a GMID, narrowed to no domain behind it, or "traceable"
@@ -59,8 +59,8 @@ pub data RefText : List ℕ → RefMeaning → Type 0 where
   gal_text : RefText (word "gal") gal
   glonass_text : RefText (word "glonass") glonass
   local_text : RefText (word "local") local
-  private-text : RefText (word "private") privateStandard
-  private-traceable-text : RefText (word "private:traceable") privateTraceable
+  private_text : RefText (word "private") private_standard
+  private_traceable_text : RefText (word "private:traceable") private_traceable
   ref_ext_text : (s n : List ℕ) (x : Option (List ℕ)) → ExtText s n x → left_to_ref_ext s ≡ true → RefText s (ref_ext n x)
 
 -- [ "=" 1*DIGIT ], the offset of a direct clock
@@ -83,8 +83,8 @@ pub data MediaText : List ℕ → MediaMeaning → Type 0 where
 
 -- [ "src:" ] base64, the tag of an id
 pub data TagText : List ℕ → Tag → Type 0 where
-  plain_text : (t : List ℕ) → tag narrowed t ≡ true → TagText t (plainTag t)
-  src_text : (t : List ℕ) → tag narrowed t ≡ true → TagText (word "src:" ++ t) (srcTag t)
+  plain_text : (t : List ℕ) → tag narrowed t ≡ true → TagText t (plain_tag t)
+  src_text : (t : List ℕ) → tag narrowed t ≡ true → TagText (word "src:" ++ t) (src_tag t)
 
 -- mediaclk = [ "id=" [ "src:" ] base64 SP ] mediaclock
 pub data SourceText : List ℕ → SourceMeaning → Type 0 where

@@ -1,12 +1,11 @@
 -- What a slot that was changed says, and that the others say what they said. Assumes nothing.
-use Prim.Native.Nat.{ℕ, ◌+◌, ◌*◌, ◌-◌, ◌≤◌, ◌<◌, min}
+use Prim.Native.Nat.{ℕ, ◌+◌, ◌*◌, ◌≤◌, ◌<◌, min}
 use mathlib.Core.Path.{◌≡◌, refl, sym, ap, ◌∙◌}
-use mathlib.Core.List.{List, [], ◌∷◌, ◌++◌, append-nil}
-use mathlib.Core.Bool.{Bool, true, false}
+use mathlib.Core.List.{List, [], ◌++◌, append-nil}
 use native.Mathlib.Omega.{arith}
 use lib.Dec.{ltb}
-use lib.ListN.{length, take, drop, length-append}
-use lib.Seq.{sets, drop-append-add, take-length}
+use lib.ListN.{length, length-append}
+use lib.Seq.{sets, take-length}
 use borrow.Author.Tests.{ltb-true, ltb-false}
 use Rattle.text.specs.Place.{place, bytes_at}
 use Rattle.text.proofs.Bools.{by_bool}

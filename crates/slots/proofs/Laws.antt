@@ -1,18 +1,17 @@
 -- One law for each way out of the crate's functions. Assumes nothing.
-use Prim.Native.Nat.{ℕ, suc, ◌+◌, ◌*◌, ◌-◌, ◌^◌, ◌≤◌, ◌<◌, min}
+use Prim.Native.Nat.{ℕ, suc, ◌+◌, ◌*◌, ◌-◌, ◌≤◌, ◌<◌, min}
 use mathlib.Core.Path.{◌≡◌, refl, sym, ap, ◌∙◌}
-use mathlib.Core.List.{List, ◌++◌}
+use mathlib.Core.List.{List}
 use mathlib.Core.Bool.{Bool, true, false, not}
 use native.Mathlib.Omega.{arith}
 use native.Mathlib.Numerals.{add-one}
-use lib.Dec.{eqb, ltb}
+use lib.Dec.{eqb}
 use lib.ListN.{length, take, length-take}
 use lib.Seq.{sets}
 use mir.Val.{Fits}
-use mir.Syntax.{w16, w32, w64}
+use mir.Syntax.{w32, w64}
 use borrow.Author.Tests.{eq-eqb, ne_eqb, eqb-true}
 use Rattle.text.specs.Place.{place, bytes_at, Lent, PartAt}
-use Rattle.text.specs.declared.Place.{Place}
 use Rattle.text.proofs.Bools.{by_bool, clash}
 use Rattle.room.specs.Put.{Put}
 use Rattle.room.proofs.Laws.{put_then, put_wider}

@@ -1,25 +1,25 @@
 -- There is one slot of a clock, or none, and no second answer. Assumes nothing.
-use Prim.Native.Nat.{ℕ, ◌≤◌, ◌<◌}
-use mathlib.Core.Path.{◌≡◌, refl, sym, ap, ◌∙◌}
+use Prim.Native.Nat.{ℕ}
+use mathlib.Core.Path.{◌≡◌, refl, sym, ◌∙◌}
 use mathlib.Core.List.{List}
 use mathlib.Core.Bool.{Bool, true, false, not, ◌&&◌}
 use native.Mathlib.Omega.{arith}
 use lib.Dec.{eqb, ltb}
 use borrow.Author.Tests.{eq-eqb, ne_eqb, eqb-true, eqb-false, ltb-true, ltb-false, not-true}
-use Rattle.text.proofs.Bools.{by_bool, clash, both, and_left, and_right}
+use Rattle.text.proofs.Bools.{by_bool, clash, and_left, and_right}
 use Rattle.clock.specs.declared.ReferenceClock.{ReferenceClock}
 use Rattle.clock.specs.declared.ReferenceClockRead.{ReferenceClockRead}
 use Rattle.clock.specs.declared.ReferenceClockRead.TheVariants.{Accepted, Refused}
 use Rattle.meaning.specs.ReferenceClock.{read_reference_clock}
 use Rattle.meaning.specs.Meaning.{RefMeaning, ref_meaning}
-use Rattle.equal.specs.Alike.{OneClock, hosts_alike}
+use Rattle.equal.specs.Alike.{hosts_alike}
 use Rattle.equal.specs.Fingerprint.{fingerprint, host_print}
 use Rattle.equal.specs.Private.Test.{alike}
 use Rattle.equal.proofs.Equality.{alike_decides, classes}
 use Rattle.streams.specs.Sums.{first}
-use Rattle.streams.proofs.Sums.{First, first_tells}
+use Rattle.streams.proofs.Sums.{first_tells}
 use Rattle.slots.specs.Slot.{streams_at, print_at, value_at, is_free}
-use Rattle.slots.specs.Find.{OfClock, SlotOf, SlotFor, SlotThere, SlotSettled}
+use Rattle.slots.specs.Find.{OfClock, SlotFor, SlotThere, SlotSettled}
 
 -- one value is read as one record
 pub one_record : (c d : ReferenceClock) → Accepted c ≡ Accepted d → c ≡ d

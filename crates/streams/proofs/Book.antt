@@ -1,23 +1,22 @@
 -- A book that stands for a list of streams answers as the list does, and each change of an entry is that of the list. Assumes nothing.
 use Prim.Native.Nat.{ℕ, suc, ◌+◌, ◌-◌, ◌≤◌, ◌<◌}
-use mathlib.Core.Path.{◌≡◌, refl, sym, ap, ◌∙◌}
-use mathlib.Core.List.{List, [], ◌∷◌, map}
-use mathlib.Core.Bool.{Bool, true, false, cond, not, ◌&&◌}
-use mathlib.Core.Option.{none}
+use mathlib.Core.Path.{◌≡◌, sym, ap, ◌∙◌}
+use mathlib.Core.List.{◌∷◌, map}
+use mathlib.Core.Bool.{Bool, true, false, cond, not}
 use native.Mathlib.Omega.{arith}
 use lib.Dec.{eqb, ltb}
 use lib.ListN.{length}
-use borrow.Author.Tests.{eq-eqb, ne_eqb, eqb-true, eqb-false, lt-ltb, le-ltb, ltb-true, ltb-false, not-true, not-false}
-use Rattle.text.proofs.Bools.{by_bool, clash, both, and_left, and_right}
+use borrow.Author.Tests.{ne_eqb, eqb-true, eqb-false, ltb-true, ltb-false, not-true}
+use Rattle.text.proofs.Bools.{by_bool, clash, and_left, and_right}
 use Rattle.streams.specs.Rule.{Value, Rule, Lawful, has_domain, is}
-use Rattle.streams.specs.Streams.{Streams, bit, number_of, without, is_refused, of_clock, refused_in, in_domain, clocks_in, like, moved}
-use Rattle.streams.specs.Sums.{sum, first}
+use Rattle.streams.specs.Streams.{Streams, bit, number_of, without, is_refused, of_clock, refused_in, clocks_in, moved}
+use Rattle.streams.specs.Sums.{sum}
 use Rattle.streams.specs.Book.{Book, is_free, tallied, Respects, StandsTo, Stands}
 use Rattle.streams.specs.Private.Entries.{names, clock_sum, live}
 use Rattle.streams.proofs.Lists.{bit_most, number_within, number_split, number_without, number_moved, length_without, length_map}
 use Rattle.streams.proofs.Lists.{second, same_alike, same_turned}
 use Rattle.streams.proofs.Clocks.{live_clocks}
-use Rattle.streams.proofs.Sums.{over_zero, sum_same, sum_change, sum_zero, sum_one, sum_most, sum_less, sum_all, sum_term, First, first_tells}
+use Rattle.streams.proofs.Sums.{over_zero, sum_same, sum_change, sum_zero, sum_one, sum_most, sum_less, sum_all, First}
 
 -- an entry that is not free has streams
 pub not_free : (b : Book) (i : ℕ) → is_free b i ≡ false → 0 < b.streams i

@@ -1,19 +1,18 @@
 -- The entries that have streams are as many as the clocks that have streams: this follows from the counts alone. Assumes nothing.
 use Prim.Native.Nat.{ℕ, zero, suc, ◌+◌, ◌≤◌, ◌<◌}
-use mathlib.Core.Path.{◌≡◌, refl, sym, ap, ◌∙◌}
-use mathlib.Core.List.{List, [], ◌∷◌}
+use mathlib.Core.Path.{◌≡◌, sym, ◌∙◌}
+use mathlib.Core.List.{[], ◌∷◌}
 use mathlib.Core.Bool.{Bool, true, false, cond, not, ◌&&◌}
 use native.Mathlib.Omega.{arith}
 use lib.Dec.{eqb, ltb}
-use lib.ListN.{length}
-use borrow.Author.Tests.{eq-eqb, ne_eqb, eqb-true, eqb-false, lt-ltb, le-ltb, ltb-true, ltb-false}
+use borrow.Author.Tests.{ne_eqb, eqb-true, lt-ltb, ltb-true, ltb-false}
 use Rattle.text.proofs.Bools.{by_bool, clash}
 use Rattle.streams.specs.Rule.{Value, Rule, Lawful}
 use Rattle.streams.specs.Streams.{Streams, bit, number_of, of_clock, clocks_in}
 use Rattle.streams.specs.Sums.{sum}
 use Rattle.streams.specs.Book.{Book, is_free, tallied}
 use Rattle.streams.specs.Private.Entries.{live}
-use Rattle.streams.proofs.Lists.{clock_alike, second, same_turned, same_alike}
+use Rattle.streams.proofs.Lists.{clock_alike, second}
 use Rattle.streams.proofs.Sums.{over_zero, sum_same, sum_change, sum_zero, sum_term}
 
 -- a sum over 0 has a term over 0

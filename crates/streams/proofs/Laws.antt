@@ -1,5 +1,4 @@
 -- One law for each way out of the crate's function. Assumes nothing.
-use Prim.Native.Nat.{ℕ}
 use mathlib.Core.Path.{◌≡◌}
 use Rattle.streams.specs.Calls.{refusal_number}
 use Rattle.streams.specs.declared.Uncounted.{Uncounted}

@@ -1,15 +1,13 @@
 -- The sum: a list of streams grows by each call that is answered "counted", and shrinks by each that is answered "withdrawn". Assumes nothing.
-use Prim.Native.Nat.{ℕ, suc, ◌+◌, ◌≤◌, ◌<◌}
-use mathlib.Core.Path.{◌≡◌, refl, sym, ap, ◌∙◌}
-use mathlib.Core.List.{List, [], ◌∷◌, map}
-use mathlib.Core.Bool.{Bool, true, false, cond, not, ◌&&◌}
+use Prim.Native.Nat.{ℕ, ◌+◌, ◌<◌}
+use mathlib.Core.Path.{◌≡◌, refl}
 use native.Mathlib.Omega.{arith}
-use lib.Dec.{eqb, ltb}
+use lib.Dec.{ltb}
 use lib.ListN.{length}
 use borrow.Author.Tests.{ltb-true}
 use Rattle.text.proofs.Bools.{by_bool, clash}
 use Rattle.streams.specs.Rule.{Value, Rule}
-use Rattle.streams.specs.Streams.{Streams, number_of, without, like, moved, joined}
+use Rattle.streams.specs.Streams.{Streams, number_of, like, moved, joined}
 use Rattle.streams.specs.Limits.{Limits}
 use Rattle.streams.specs.Total.{ListSum, ListParts}
 use Rattle.streams.specs.Calls.{Call, count, withdraw, join, first_of, reasons, answer, next, after, counted_by, withdrawn_by}

@@ -1,6 +1,6 @@
 -- What the calls answer one after another on a plain list, under a rule of letters: a value names the clock of its first letter, and none is refused.
-use Rattle.std.specs.Prelude.{ℕ, refl, List, [], ◌∷◌, Bool, true, false, cond, eqb, ltb, leb, length, get_or}
-use Rattle.std.proofs.Math.Option.{Option, none, some}
+use Rattle.std.specs.Prelude.{ℕ, refl, List, [], ◌∷◌, Bool, false, cond, eqb, ltb, length, get_or}
+use Rattle.std.proofs.Math.Option.{none, some}
 use Rattle.text.specs.Example.{◌gives◌, Each}
 use Rattle.text.specs.Word.{word}
 use Rattle.streams.specs.Rule.{Value, Rule}

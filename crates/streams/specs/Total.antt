@@ -1,5 +1,5 @@
 -- The sum of a plain list: it grows by each call that is answered "counted", and shrinks by each that is answered "withdrawn". `proofs/Total.antt` proves it.
-use Rattle.std.specs.Prelude.{ℕ, ◌+◌, ◌≡◌, not, length}
+use Rattle.std.specs.Prelude.{ℕ, ◌+◌, ◌≡◌, length}
 use Rattle.streams.specs.Rule.{Rule}
 use Rattle.streams.specs.Limits.{Limits}
 use Rattle.streams.specs.Streams.{Streams, number_of, refused_in}

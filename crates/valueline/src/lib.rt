@@ -20,8 +20,8 @@ use text::Place;
 
 // A record's notation and the text that is written of it are known: `note` and `text`.
 fn ok_line(note: &[u8], text: &[u8], room: &mut [u8]) -> ReplySize
-    requires note_len_bound { length note.now ≤ 133 }
-    requires text_len_bound { length text.now ≤ 1026 }
+    requires short_note { length note.now ≤ 133 }
+    requires short_text { length text.now ≤ 1026 }
     ensures { Gives (ok_line note.now text.now) room.old result room.new }
 {
     // `ok ` and ` = ` have three bytes each, LF one, and the text two digits for each byte

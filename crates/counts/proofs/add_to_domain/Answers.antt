@@ -1,7 +1,4 @@
 use Rattle.counts.proofs.Laws.{laws}
-use Rattle.counts.proofs.add_to_domain.Reads as reads
-use Rattle.counts.proofs.add_to_domain.Lts as lts
-use Rattle.counts.proofs.plus.Reads as plus-reads
 use Rattle.std.proofs.Common.{rules}
 use Rattle.counts.proofs.add_to_domain.Goals as goal
 

@@ -1,6 +1,4 @@
 use Rattle.counts.proofs.Laws.{laws}
-use Rattle.counts.proofs.in_domain.Reads as reads
-use Rattle.counts.proofs.in_domain.Lts as lts
 use Rattle.std.proofs.Common.{rules}
 use Rattle.counts.proofs.in_domain.Goals as goal
 

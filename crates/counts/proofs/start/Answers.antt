@@ -1,6 +1,4 @@
 use Rattle.counts.proofs.Laws.{laws}
-use Rattle.counts.proofs.start.Reads as reads
-use Rattle.counts.proofs.start.Lts as lts
 use Rattle.std.proofs.Common.{rules}
 use Rattle.counts.proofs.start.Goals as goal
 

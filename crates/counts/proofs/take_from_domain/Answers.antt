@@ -1,7 +1,4 @@
 use Rattle.counts.proofs.Laws.{laws}
-use Rattle.counts.proofs.take_from_domain.Reads as reads
-use Rattle.counts.proofs.take_from_domain.Lts as lts
-use Rattle.counts.proofs.minus.Reads as minus-reads
 use Rattle.std.proofs.Common.{rules}
 use Rattle.counts.proofs.take_from_domain.Goals as goal
 

@@ -44,15 +44,15 @@ extension_says k f h n v = says k f (present v) 0 0 h n (bytes v)
 
 -- PTP: which version, and its own name
 abbrev pub version_kind : Version → ℕ
-version_kind means.ieee1588-2002 = 0
-version_kind means.ieee1588-2008 = 1
-version_kind means.ieee802-1as-2011 = 2
+version_kind means.ieee1588_2002 = 0
+version_kind means.ieee1588_2008 = 1
+version_kind means.ieee802_1as_2011 = 2
 version_kind (means.own_version s) = 3
 
 abbrev pub version_name : Version → List ℕ
-version_name means.ieee1588-2002 = []
-version_name means.ieee1588-2008 = []
-version_name means.ieee802-1as-2011 = []
+version_name means.ieee1588_2002 = []
+version_name means.ieee1588_2008 = []
+version_name means.ieee802_1as_2011 = []
 version_name (means.own_version s) = s
 
 -- traceable; a GMID alone; with a domain's name; with a domain's number
@@ -71,20 +71,20 @@ clock_says means.gps = says 3 0 0 0 0 [] [] []
 clock_says means.gal = says 4 0 0 0 0 [] [] []
 clock_says means.glonass = says 5 0 0 0 0 [] [] []
 clock_says means.local = says 6 0 0 0 0 [] [] []
-clock_says means.privateStandard = says 7 0 0 0 0 [] [] []
-clock_says means.privateTraceable = says 8 0 0 0 0 [] [] []
+clock_says means.private_standard = says 7 0 0 0 0 [] [] []
+clock_says means.private_traceable = says 8 0 0 0 0 [] [] []
 clock_says (means.ref_ext n v) = extension_says 9 0 [] n v
 
 -- mediaclk: the head is the tag
 abbrev pub tag_kind : Option Tag → ℕ
 tag_kind none = 0
-tag_kind (some (means.plainTag t)) = 1
-tag_kind (some (means.srcTag t)) = 2
+tag_kind (some (means.plain_tag t)) = 1
+tag_kind (some (means.src_tag t)) = 2
 
 abbrev pub tag_bytes : Option Tag → List ℕ
 tag_bytes none = []
-tag_bytes (some (means.plainTag t)) = t
-tag_bytes (some (means.srcTag t)) = t
+tag_bytes (some (means.plain_tag t)) = t
+tag_bytes (some (means.src_tag t)) = t
 
 abbrev pub rate_says : ℕ → ℕ → List ℕ → Option Ratio → Flat
 rate_says f a t none = says 1 f a 0 0 t [] []

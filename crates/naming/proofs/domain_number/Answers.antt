@@ -1,7 +1,4 @@
 use Rattle.naming.proofs.Laws.{laws}
-use Rattle.naming.proofs.domain_number.Reads as reads
-use Rattle.naming.proofs.domain_number.Lts as lts
-use Rattle.naming.proofs.server_domain.Reads as server-domain-reads
 use Rattle.std.proofs.Common.{rules}
 use Rattle.naming.proofs.domain_number.Goals as goal
 

@@ -1,7 +1,4 @@
 use Rattle.quads.proofs.Laws.{laws}
-use Rattle.quads.proofs.number_at.Reads as reads
-use Rattle.quads.proofs.number_at.Lts as lts
-use Rattle.quads.proofs.wide.Reads as wide-reads
 use Rattle.std.proofs.Common.{rules}
 use Rattle.quads.proofs.number_at.Goals as goal
 

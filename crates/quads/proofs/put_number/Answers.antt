@@ -1,7 +1,4 @@
 use Rattle.quads.proofs.Laws.{laws}
-use Rattle.quads.proofs.put_number.Reads as reads
-use Rattle.quads.proofs.put_number.Lts as lts
-use Rattle.room.proofs.put_bytes.Reads as put-bytes-reads
 use Rattle.std.proofs.Common.{rules}
 use Rattle.quads.proofs.put_number.Goals as goal
 

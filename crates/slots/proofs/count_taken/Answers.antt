@@ -1,7 +1,4 @@
 use Rattle.slots.proofs.Laws.{laws}
-use Rattle.slots.proofs.count_taken.Reads as reads
-use Rattle.slots.proofs.count_taken.Lts as lts
-use Rattle.slots.proofs.taken.Reads as taken-reads
 use Rattle.std.proofs.Common.{rules}
 use Rattle.slots.proofs.count_taken.Goals as goal
 

@@ -1,8 +1,5 @@
 use Prim.Native.Nat.{◌-◌}
 use Rattle.slots.proofs.Laws.{Taken}
-use Rattle.slots.proofs.count_taken.Reads as reads
-use Rattle.slots.proofs.count_taken.Lts as lts
-use Rattle.slots.proofs.taken.Reads as taken-reads
 use Rattle.slots.proofs.count_taken.Given as goal
 
 abbrev pub invariant-loop-i : goal.invariant-loop-i

@@ -1,8 +1,4 @@
 use Rattle.slots.proofs.Laws.{laws}
-use Rattle.slots.proofs.find.Reads as reads
-use Rattle.slots.proofs.find.Lts as lts
-use Rattle.equal.proofs.fingerprint.Reads as fingerprint-reads
-use Rattle.slots.proofs.is_of_clock.Reads as is-of-clock-reads
 use Rattle.std.proofs.Common.{rules}
 use Rattle.slots.proofs.find.Goals as goal
 

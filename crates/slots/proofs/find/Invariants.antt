@@ -1,10 +1,6 @@
 use Prim.Native.Nat.{◌-◌}
 use Rattle.meaning.specs.Meaning.{ref_meaning}
 use Rattle.slots.proofs.Laws.{NoneBefore}
-use Rattle.slots.proofs.find.Reads as reads
-use Rattle.slots.proofs.find.Lts as lts
-use Rattle.equal.proofs.fingerprint.Reads as fingerprint-reads
-use Rattle.slots.proofs.is_of_clock.Reads as is-of-clock-reads
 use Rattle.slots.proofs.find.Given as goal
 
 abbrev pub invariant-loop-i : goal.invariant-loop-i

@@ -1,7 +1,4 @@
 use Rattle.slots.proofs.Laws.{laws}
-use Rattle.slots.proofs.find_free.Reads as reads
-use Rattle.slots.proofs.find_free.Lts as lts
-use Rattle.slots.proofs.streams_at.Reads as streams-at-reads
 use Rattle.std.proofs.Common.{rules}
 use Rattle.slots.proofs.find_free.Goals as goal
 

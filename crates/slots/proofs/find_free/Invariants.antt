@@ -1,9 +1,6 @@
 use Prim.Native.Nat.{◌-◌}
 use Rattle.slots.specs.Slot.{is_free}
 use Rattle.slots.proofs.Laws.{Looked}
-use Rattle.slots.proofs.find_free.Reads as reads
-use Rattle.slots.proofs.find_free.Lts as lts
-use Rattle.slots.proofs.streams_at.Reads as streams-at-reads
 use Rattle.slots.proofs.find_free.Given as goal
 
 abbrev pub invariant-loop-i : goal.invariant-loop-i

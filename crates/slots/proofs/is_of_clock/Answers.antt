@@ -1,11 +1,4 @@
 use Rattle.slots.proofs.Laws.{laws}
-use Rattle.slots.proofs.is_of_clock.Reads as reads
-use Rattle.slots.proofs.is_of_clock.Lts as lts
-use Rattle.equal.proofs.same_reference_clocks.Reads as same-reference-clocks-reads
-use Rattle.refclk.proofs.read_reference_clock.Reads as read-reference-clock-reads
-use Rattle.slots.proofs.print_at.Reads as print-at-reads
-use Rattle.slots.proofs.streams_at.Reads as streams-at-reads
-use Rattle.slots.proofs.value_at.Reads as value-at-reads
 use Rattle.std.proofs.Common.{rules}
 use Rattle.slots.proofs.is_of_clock.Goals as goal
 

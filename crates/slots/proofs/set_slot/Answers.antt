@@ -1,9 +1,4 @@
 use Rattle.slots.proofs.Laws.{laws}
-use Rattle.slots.proofs.set_slot.Reads as reads
-use Rattle.slots.proofs.set_slot.Lts as lts
-use Rattle.slots.proofs.put_slot.Reads as put-slot-reads
-use Rattle.slots.proofs.start.Reads as start-reads
-use Rattle.text.proofs.part.Reads as part-reads
 use Rattle.std.proofs.Common.{rules}
 use Rattle.slots.proofs.set_slot.Goals as goal
 

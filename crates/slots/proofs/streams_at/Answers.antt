@@ -1,8 +1,4 @@
 use Rattle.slots.proofs.Laws.{laws}
-use Rattle.slots.proofs.streams_at.Reads as reads
-use Rattle.slots.proofs.streams_at.Lts as lts
-use Rattle.quads.proofs.number_at.Reads as number-at-reads
-use Rattle.slots.proofs.start.Reads as start-reads
 use Rattle.std.proofs.Common.{rules}
 use Rattle.slots.proofs.streams_at.Goals as goal
 

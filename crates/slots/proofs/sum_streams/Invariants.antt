@@ -1,8 +1,5 @@
 use Prim.Native.Nat.{◌-◌}
 use Rattle.slots.proofs.Laws.{Summed}
-use Rattle.slots.proofs.sum_streams.Reads as reads
-use Rattle.slots.proofs.sum_streams.Lts as lts
-use Rattle.slots.proofs.streams_at.Reads as streams-at-reads
 use Rattle.slots.proofs.sum_streams.Given as goal
 
 abbrev pub invariant-loop-i : goal.invariant-loop-i

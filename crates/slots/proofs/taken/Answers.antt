@@ -1,7 +1,4 @@
 use Rattle.slots.proofs.Laws.{laws}
-use Rattle.slots.proofs.taken.Reads as reads
-use Rattle.slots.proofs.taken.Lts as lts
-use Rattle.slots.proofs.streams_at.Reads as streams-at-reads
 use Rattle.std.proofs.Common.{rules}
 use Rattle.slots.proofs.taken.Goals as goal
 

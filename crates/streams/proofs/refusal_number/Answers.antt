@@ -1,6 +1,4 @@
 use Rattle.streams.proofs.Laws.{laws}
-use Rattle.streams.proofs.refusal_number.Reads as reads
-use Rattle.streams.proofs.refusal_number.Lts as lts
 use Rattle.std.proofs.Common.{rules}
 use Rattle.streams.proofs.refusal_number.Goals as goal
 

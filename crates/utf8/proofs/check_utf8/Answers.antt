@@ -2,9 +2,7 @@
 use Rattle.utf8.proofs.Laws.{laws, tails_short, tails_below, tails_above, check_well, check_ill}
 use Rattle.utf8.specs.Utf8.{utf8_octets}
 use Rattle.abnf.specs.Rule.{longest}
-use lib.ListN.{length}
 use mathlib.Core.Path.{◌≡◌, ◌∙◌}
-use mathlib.Core.Logic.{⊎_elim}
 use Rattle.std.proofs.Common.{rules}
 use Rattle.utf8.proofs.check_utf8.Goals as goal
 use Rattle.utf8.proofs.check_utf8.Goals.{Joined-s-at, then-s-at, else-s-at+in_default, else-s-at+in-Starts+then-loop-left-test+then-s-next, else-s-at+in-Starts+then-loop-left-test+else-s-next+then-b-low, else-s-at+in-Starts+then-loop-left-test+else-s-next+else-b-low+then-high-b}
