@@ -105,19 +105,19 @@ fn say_broken(errors: &mut impl Write) {
 }
 
 fn main(rt: HostRuntime) -> io::Result<()> {
-    let mut input = rt.stdin();
-    let mut out = rt.stdout();
+    let mut stdin = rt.stdin();
+    let mut stdout = rt.stdout();
     let mut buffer = console::large_buffer();
-    let Ok(n) = console::read_full(&mut input, &mut buffer) else {
+    let Ok(n) = console::read_full(&mut stdin, &mut buffer) else {
         say_broken(&mut rt.stderr());
         return Ok(());
     };
-    if is_input_broken(&mut input) {
+    if is_input_broken(&mut stdin) {
         say_broken(&mut rt.stderr());
         return Ok(());
     }
-    let lines = say_lines(&mut out, &buffer[..n])?;
-    say(&mut out, b"lines ")?;
-    say_number(&mut out, lines)?;
-    say(&mut out, b"\n")
+    let lines = say_lines(&mut stdout, &buffer[..n])?;
+    say(&mut stdout, b"lines ")?;
+    say_number(&mut stdout, lines)?;
+    say(&mut stdout, b"\n")
 }
