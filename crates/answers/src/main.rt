@@ -8,9 +8,10 @@
 ghost use Rattle.std.specs.Prelude.{◌≤◌, length};
 
 use briefreply::ReplySize;
-use libc::{STDERR_FILENO, STDIN_FILENO, STDOUT_FILENO};
 use questions::Level;
 use report::Kind;
+use std::io;
+use std::io::{Read, Write};
 use text::Place;
 
 const MOST_FRAMES: u64 = 4294967295;
@@ -24,13 +25,12 @@ enum Ask {
     Governing { session: usize, media: usize },
 }
 
-// The next frame; or none; or one that is cut; or the input could not be read.
+// The next frame; or none; or one that is cut.
 #[derive(Clone, Copy)]
 enum Frame {
     Ask(Ask),
     End,
     Cut,
-    Broken,
 }
 
 // What came of it: its value was accepted, or refused, or a question was answered; or nothing more is read, since the input ended, or was cut, or a read
@@ -67,17 +67,8 @@ fn front(s: &[u8], len: usize) -> &[u8] {
     text::part(s, Place { start: 0, len })
 }
 
-// Whether the input stopped because a read failed: at its end one more read answers 0.
-fn is_input_broken() -> bool {
-    let mut one = [0u8; 1];
-    libc::read(STDIN_FILENO, &mut one) != 0
-}
-
 // A frame of which only so many bytes came.
 fn short_frame(got: usize) -> Frame {
-    if is_input_broken() {
-        return Frame::Broken;
-    }
     if got == 0 {
         return Frame::End;
     }
@@ -85,51 +76,57 @@ fn short_frame(got: usize) -> Frame {
 }
 
 // Whether so many bytes were read to the front of the room, which must hold them.
-fn is_read(room: &mut [u8], len: usize) -> bool {
+fn is_read(input: &mut impl Read, room: &mut [u8], len: usize) -> io::Result<bool> {
     if room.len() < len {
-        return false;
+        return Ok(false);
     }
-    io::read_full(STDIN_FILENO, &mut room[..len]) == len
+    let got = console::read_full(input, &mut room[..len])?;
+    Ok(got == len)
 }
 
 // The second value of a question, behind a first one of so many bytes.
-fn read_second(letter: u8, first: usize, other: &mut [u8]) -> Frame {
+fn read_second(
+    input: &mut impl Read,
+    letter: u8,
+    first: usize,
+    other: &mut [u8],
+) -> io::Result<Frame> {
     let mut head = [0u8; 2];
-    if io::read_full(STDIN_FILENO, &mut head) < 2 {
-        return short_frame(1);
+    if console::read_full(input, &mut head)? < 2 {
+        return Ok(short_frame(1));
     }
     let second = value_length(head[0], head[1]);
-    if !is_read(other, second) {
-        return short_frame(1);
+    if !is_read(input, other, second)? {
+        return Ok(short_frame(1));
     }
     if letter == b's' {
-        return Frame::Ask(Ask::Same { first, second });
+        return Ok(Frame::Ask(Ask::Same { first, second }));
     }
-    Frame::Ask(Ask::Governing {
+    Ok(Frame::Ask(Ask::Governing {
         session: first,
         media: second,
-    })
+    }))
 }
 
-fn read_frame(value: &mut [u8], other: &mut [u8]) -> Frame {
+fn read_frame(input: &mut impl Read, value: &mut [u8], other: &mut [u8]) -> io::Result<Frame> {
     let mut head = [0u8; 3];
-    let got = io::read_full(STDIN_FILENO, &mut head);
+    let got = console::read_full(input, &mut head)?;
     if got < 3 {
-        return short_frame(got);
+        return Ok(short_frame(got));
     }
     let len = value_length(head[1], head[2]);
     match head[0] {
         b'r' | b'm' | b's' | b'g' => {
-            if !is_read(value, len) {
-                return short_frame(3);
+            if !is_read(input, value, len)? {
+                return Ok(short_frame(3));
             }
         }
-        _ => return Frame::Cut,
+        _ => return Ok(Frame::Cut),
     }
     match head[0] {
-        b'r' => Frame::Ask(Ask::Reference(len)),
-        b'm' => Frame::Ask(Ask::Media(len)),
-        letter => read_second(letter, len, other),
+        b'r' => Ok(Frame::Ask(Ask::Reference(len))),
+        b'm' => Ok(Frame::Ask(Ask::Media(len))),
+        letter => read_second(input, letter, len, other),
     }
 }
 
@@ -206,12 +203,19 @@ fn put_line<'a>(ask: Ask, value: &'a [u8], other: &'a [u8], room: &mut [u8]) -> 
     }
 }
 
-fn print_held(room: &[u8], held: usize) -> bool {
-    io::write_all(STDOUT_FILENO, front(room, held))
+fn print_held(out: &mut impl Write, room: &[u8], held: usize) -> bool {
+    console::write_all(out, front(room, held)).is_ok()
 }
 
 // Holds the line of what is asked behind what is held. Where it does not fit, what is held is printed first.
-fn hold_line<'a>(ask: Ask, value: &'a [u8], other: &'a [u8], room: &mut [u8], held: usize) -> Step
+fn hold_line<'a>(
+    out: &mut impl Write,
+    ask: Ask,
+    value: &'a [u8],
+    other: &'a [u8],
+    room: &mut [u8],
+    held: usize,
+) -> Step
     requires { held ≤ length room.old }
     ensures { result.held ≤ length room.old }
 {
@@ -224,7 +228,7 @@ fn hold_line<'a>(ask: Ask, value: &'a [u8], other: &'a [u8], room: &mut [u8], he
             held: held + line.len,
         };
     }
-    if !print_held(room, held) {
+    if !print_held(out, room, held) {
         return Step {
             told: Told::Broken,
             held: 0,
@@ -245,56 +249,66 @@ fn hold_line<'a>(ask: Ask, value: &'a [u8], other: &'a [u8], room: &mut [u8], he
     }
 }
 
-fn take_step(value: &mut [u8], other: &mut [u8], room: &mut [u8], held: usize) -> Step
+fn take_step(
+    input: &mut impl Read,
+    out: &mut impl Write,
+    value: &mut [u8],
+    other: &mut [u8],
+    room: &mut [u8],
+    held: usize,
+) -> Step
     requires { held ≤ length room.old }
     ensures { result.held ≤ length room.old }
 {
-    match read_frame(value, other) {
-        Frame::Ask(ask) => hold_line(ask, value, other, room, held),
-        Frame::End => Step {
+    match read_frame(input, value, other) {
+        Ok(Frame::Ask(ask)) => hold_line(out, ask, value, other, room, held),
+        Ok(Frame::End) => Step {
             told: Told::End,
             held,
         },
-        Frame::Cut => Step {
+        Ok(Frame::Cut) => Step {
             told: Told::Cut,
             held,
         },
-        Frame::Broken => Step {
+        Err(_) => Step {
             told: Told::Broken,
             held,
         },
     }
 }
 
-fn say(word: &[u8]) {
-    io::write_all(STDOUT_FILENO, word);
+fn say(out: &mut impl Write, word: &[u8]) -> io::Result<()> {
+    console::write_all(out, word)
 }
 
 // What was not read or not written whole has no counts, and says so.
-fn say_broken() {
-    io::write_all(
-        STDERR_FILENO,
+fn say_broken(errors: &mut impl Write) {
+    let _ = console::write_all(
+        errors,
         b"the input could not be read, or the output not written: the counts are left out\n",
     );
 }
 
 // Each was counted on its own.
-fn say_counts(frames: u64, ok: u64, no: u64, asked: u64) {
-    say(b"frames ");
-    io::print_decimal(STDOUT_FILENO, frames);
-    say(b" ok ");
-    io::print_decimal(STDOUT_FILENO, ok);
-    say(b" no ");
-    io::print_decimal(STDOUT_FILENO, no);
-    say(b" asked ");
-    io::print_decimal(STDOUT_FILENO, asked);
-    say(b"\n");
+fn say_counts(out: &mut impl Write, frames: u64, ok: u64, no: u64, asked: u64) -> io::Result<()> {
+    say(out, b"frames ")?;
+    console::print_decimal(out, frames)?;
+    say(out, b" ok ")?;
+    console::print_decimal(out, ok)?;
+    say(out, b" no ")?;
+    console::print_decimal(out, no)?;
+    say(out, b" asked ")?;
+    console::print_decimal(out, asked)?;
+    say(out, b"\n")
 }
 
-fn main() {
-    let mut values = io::large_buffer();
-    let mut others = io::large_buffer();
-    let mut lines = io::large_buffer();
+fn main(rt: HostRuntime) -> io::Result<()> {
+    let mut stdin = rt.stdin();
+    let mut stdout = rt.stdout();
+    let mut stderr = rt.stderr();
+    let mut values = console::large_buffer();
+    let mut others = console::large_buffer();
+    let mut lines = console::large_buffer();
     let value: &mut [u8] = &mut values;
     let other: &mut [u8] = &mut others;
     let room: &mut [u8] = &mut lines;
@@ -305,7 +319,7 @@ fn main() {
     let mut no: u64 = 0;
     let mut asked: u64 = 0;
     while frames < MOST_FRAMES {
-        let step = take_step(value, other, room, held);
+        let step = take_step(&mut stdin, &mut stdout, value, other, room, held);
         let told = step.told;
         held = step.held;
         match told {
@@ -327,17 +341,17 @@ fn main() {
                 break;
             }
             Told::Broken => {
-                say_broken();
-                return;
+                say_broken(&mut stderr);
+                return Ok(());
             }
         }
     }
-    if !print_held(room, held) {
-        say_broken();
-        return;
+    if !print_held(&mut stdout, room, held) {
+        say_broken(&mut stderr);
+        return Ok(());
     }
     if cut {
-        say(b"cut\n");
+        say(&mut stdout, b"cut\n")?;
     }
-    say_counts(frames, ok, no, asked);
+    say_counts(&mut stdout, frames, ok, no, asked)
 }

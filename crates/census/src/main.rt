@@ -4,8 +4,8 @@
 
 ghost use Rattle.std.specs.Prelude.{◌≡◌, ◌≤◌, length};
 
-use libc::{STDERR_FILENO, STDIN_FILENO, STDOUT_FILENO};
 use roll::Roll;
+use std::io::{Read, Write};
 use text::Place;
 
 // How many bytes of the open line are kept: a line of so many is no clock line whatever follows.
@@ -98,18 +98,22 @@ fn cut_fragment(begun: Cut, memory: &mut [u8], line: &mut [u8], text: &[u8]) -> 
 }
 
 // Reads once, and takes the lines of what came.
-fn take_fragment(cut: Cut, memory: &mut [u8], line: &mut [u8], space: &mut [u8]) -> Taken
+fn take_fragment(
+    input: &mut impl Read,
+    cut: Cut,
+    memory: &mut [u8],
+    line: &mut [u8],
+    space: &mut [u8],
+) -> Taken
     ensures { result.read ≤ length space.old }
 {
-    let got = libc::read(STDIN_FILENO, space);
-    if got < 0 {
+    let Ok(n) = input.read(space) else {
         return Taken {
             read: 0,
             whole: false,
             cut,
         };
-    }
-    let n = io::count(got, space);
+    };
     let after = cut_fragment(cut, memory, line, &space[..n]);
     Taken {
         read: n,
@@ -129,25 +133,34 @@ fn take_last(cut: Cut, memory: &mut [u8], line: &[u8]) -> Roll {
 }
 
 // Counts that are not those of the whole text have no totals, and this is said.
-fn say_broken() {
-    io::write_all(
-        STDERR_FILENO,
+fn say_broken(errors: &mut impl Write) {
+    let _ = console::write_all(
+        errors,
         b"the input could not be read, or the output not written: the census is not whole\n",
     );
 }
 
 // What was counted is printed; where streams were not counted, that is said too. No call is refused but for the number of clocks: the memory is long
 // enough, and a text that is read has fewer streams than may be counted.
-fn print(roll: Roll, memory: &[u8], room: &mut [u8]) {
+fn print(
+    out: &mut impl Write,
+    errors: &mut impl Write,
+    roll: Roll,
+    memory: &[u8],
+    room: &mut [u8],
+) {
     let len = rolltext::put_roll(room, roll, memory);
-    if !io::write_all(STDOUT_FILENO, front(room, len)) {
-        say_broken();
+    if console::write_all(out, front(room, len)).is_err() {
+        say_broken(errors);
     }
     let said = rolltext::put_warning(room, roll.uncounted);
-    io::write_all(STDERR_FILENO, front(room, said));
+    let _ = console::write_all(errors, front(room, said));
 }
 
-fn main() {
+fn main(rt: HostRuntime) {
+    let mut stdin = rt.stdin();
+    let mut stdout = rt.stdout();
+    let mut stderr = rt.stderr();
     let mut clocks = slots();
     let mut begun = open_line();
     let mut buffer = input();
@@ -163,9 +176,9 @@ fn main() {
     let mut left = MOST_READ;
     while 0 < left {
         let most = text::least(left, space.len());
-        let taken = take_fragment(cut, memory, line, &mut space[..most]);
+        let taken = take_fragment(&mut stdin, cut, memory, line, &mut space[..most]);
         if !taken.whole {
-            say_broken();
+            say_broken(&mut stderr);
             return;
         }
         cut = taken.cut;
@@ -175,5 +188,5 @@ fn main() {
         left -= taken.read;
     }
     let roll = take_last(cut, memory, line);
-    print(roll, memory, room);
+    print(&mut stdout, &mut stderr, roll, memory, room);
 }

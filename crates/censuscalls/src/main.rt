@@ -9,7 +9,8 @@ ghost use Rattle.std.specs.Prelude.{◌≡◌, length};
 
 use asking::Asked;
 use counts::{Called, Census};
-use libc::{STDERR_FILENO, STDIN_FILENO, STDOUT_FILENO};
+use std::io;
+use std::io::{Read, Write};
 use streams::{LEAST_MEMORY, Uncounted, Verdict};
 use text::Place;
 
@@ -35,14 +36,13 @@ enum Call {
     Totals,
 }
 
-// The next frame: a fresh census that is lent so many bytes, or a call; or none; or one that is cut; or the input could not be read.
+// The next frame: a fresh census that is lent so many bytes, or a call; or none; or one that is cut.
 #[derive(Clone, Copy)]
 enum Frame {
     Start(usize),
     Call(Call),
     End,
     Cut,
-    Broken,
 }
 
 // A value that was read, or the input has no more.
@@ -84,106 +84,86 @@ fn value_length(high: u8, low: u8) -> usize {
     high as usize * 256 + low as usize
 }
 
-// Whether the input stopped because a read failed: at its end one more read answers 0.
-fn is_input_broken() -> bool {
-    let mut one = [0u8; 1];
-    libc::read(STDIN_FILENO, &mut one) != 0
-}
-
-// Where not even a letter came.
-fn no_frame() -> Frame {
-    if is_input_broken() {
-        return Frame::Broken;
-    }
-    Frame::End
-}
-
-// A frame of which some bytes did not come.
-fn short_frame() -> Frame {
-    if is_input_broken() {
-        return Frame::Broken;
-    }
-    Frame::Cut
-}
-
 // Whether so many bytes were read to a place; the room must hold them.
-fn is_read(values: &mut [u8], start: usize, len: usize) -> bool {
+fn is_read(input: &mut impl Read, values: &mut [u8], start: usize, len: usize) -> io::Result<bool> {
     if values.len() <= start {
-        return false;
+        return Ok(false);
     }
     if values.len() - start < len {
-        return false;
+        return Ok(false);
     }
     let end = start + len;
-    io::read_full(STDIN_FILENO, &mut values[start..end]) == len
+    let got = console::read_full(input, &mut values[start..end])?;
+    Ok(got == len)
 }
 
-fn read_value(values: &mut [u8], start: usize) -> ReadValue {
+fn read_value(input: &mut impl Read, values: &mut [u8], start: usize) -> io::Result<ReadValue> {
     let mut head = [0u8; 2];
-    if io::read_full(STDIN_FILENO, &mut head) < 2 {
-        return ReadValue::Short;
+    if console::read_full(input, &mut head)? < 2 {
+        return Ok(ReadValue::Short);
     }
     let len = value_length(head[0], head[1]);
-    if is_read(values, start, len) {
-        return ReadValue::At(Place { start, len });
+    if is_read(input, values, start, len)? {
+        return Ok(ReadValue::At(Place { start, len }));
     }
-    ReadValue::Short
+    Ok(ReadValue::Short)
 }
 
-fn read_start() -> Frame {
+fn read_start(input: &mut impl Read) -> io::Result<Frame> {
     let mut number = [0u8; 4];
-    if io::read_full(STDIN_FILENO, &mut number) < 4 {
-        return short_frame();
+    if console::read_full(input, &mut number)? < 4 {
+        return Ok(Frame::Cut);
     }
     let lent = quads::number_at(&number, 0) as usize;
     if MOST_MEMORY < lent {
-        return Frame::Cut;
+        return Ok(Frame::Cut);
     }
-    Frame::Start(lent)
+    Ok(Frame::Start(lent))
 }
 
 // The call of a letter that one value belongs to.
-fn read_call_of_value(letter: u8, values: &mut [u8]) -> Frame {
-    let ReadValue::At(value) = read_value(values, 0) else {
-        return short_frame();
+fn read_call_of_value(input: &mut impl Read, letter: u8, values: &mut [u8]) -> io::Result<Frame> {
+    let ReadValue::At(value) = read_value(input, values, 0)? else {
+        return Ok(Frame::Cut);
     };
-    match letter {
-        b'c' => Frame::Call(Call::Count(value)),
-        b'w' => Frame::Call(Call::Withdraw(value)),
-        _ => Frame::Call(Call::StreamsOf(value)),
-    }
+    let call = match letter {
+        b'c' => Call::Count(value),
+        b'w' => Call::Withdraw(value),
+        _ => Call::StreamsOf(value),
+    };
+    Ok(Frame::Call(call))
 }
 
-fn read_join(values: &mut [u8]) -> Frame {
-    let ReadValue::At(from) = read_value(values, 0) else {
-        return short_frame();
+fn read_join(input: &mut impl Read, values: &mut [u8]) -> io::Result<Frame> {
+    let ReadValue::At(from) = read_value(input, values, 0)? else {
+        return Ok(Frame::Cut);
     };
-    let ReadValue::At(into) = read_value(values, SECOND_VALUE) else {
-        return short_frame();
+    let ReadValue::At(into) = read_value(input, values, SECOND_VALUE)? else {
+        return Ok(Frame::Cut);
     };
-    Frame::Call(Call::Join { from, into })
+    Ok(Frame::Call(Call::Join { from, into }))
 }
 
-fn read_domain() -> Frame {
+fn read_domain(input: &mut impl Read) -> io::Result<Frame> {
     let mut domain = [0u8; 1];
-    if io::read_full(STDIN_FILENO, &mut domain) < 1 {
-        return short_frame();
+    if console::read_full(input, &mut domain)? < 1 {
+        return Ok(Frame::Cut);
     }
-    Frame::Call(Call::StreamsIn(domain[0]))
+    Ok(Frame::Call(Call::StreamsIn(domain[0])))
 }
 
-fn read_frame(values: &mut [u8]) -> Frame {
+fn read_frame(input: &mut impl Read, values: &mut [u8]) -> io::Result<Frame> {
     let mut letter = [0u8; 1];
-    if io::read_full(STDIN_FILENO, &mut letter) < 1 {
-        return no_frame();
+    if console::read_full(input, &mut letter)? < 1 {
+        return Ok(Frame::End);
     }
     match letter[0] {
-        b's' => read_start(),
-        b'c' | b'w' | b'q' => read_call_of_value(letter[0], values),
-        b'j' => read_join(values),
-        b'd' => read_domain(),
-        b't' => Frame::Call(Call::Totals),
-        _ => Frame::Cut,
+        b's' => read_start(input),
+        b'c' | b'w' | b'q' => read_call_of_value(input, letter[0], values),
+        b'j' => read_join(input, values),
+        b'd' => read_domain(input),
+        b't' => Ok(Frame::Call(Call::Totals)),
+        _ => Ok(Frame::Cut),
     }
 }
 
@@ -315,58 +295,68 @@ fn answer(
     }
 }
 
-fn print_held(room: &[u8], held: usize) -> bool {
+fn print_held(out: &mut impl Write, room: &[u8], held: usize) -> bool {
     let front = Place {
         start: 0,
         len: held,
     };
-    io::write_all(STDOUT_FILENO, text::part(room, front))
+    console::write_all(out, text::part(room, front)).is_ok()
 }
 
 // What is held is printed where it is much.
-fn print_much(room: &[u8], held: usize) -> Held {
+fn print_much(out: &mut impl Write, room: &[u8], held: usize) -> Held {
     if held < MUCH_HELD {
         return Held::Bytes(held);
     }
-    if print_held(room, held) {
+    if print_held(out, room, held) {
         return Held::Bytes(0);
     }
     Held::Unprinted
 }
 
-fn say(word: &[u8]) {
-    io::write_all(STDOUT_FILENO, word);
+fn say(out: &mut impl Write, word: &[u8]) -> io::Result<()> {
+    console::write_all(out, word)
 }
 
 // What was not read or not written whole has no count, and says so.
-fn say_broken() {
-    io::write_all(
-        STDERR_FILENO,
+fn say_broken(errors: &mut impl Write) {
+    let _ = console::write_all(
+        errors,
         b"the input could not be read, or the output not written: the count is left out\n",
     );
 }
 
-fn say_calls(calls: u64) {
-    say(b"calls ");
-    io::print_decimal(STDOUT_FILENO, calls);
-    say(b"\n");
+fn say_calls(out: &mut impl Write, calls: u64) -> io::Result<()> {
+    say(out, b"calls ")?;
+    console::print_decimal(out, calls)?;
+    say(out, b"\n")
 }
 
-fn say_end(room: &[u8], held: usize, cut: bool, calls: u64) {
-    if !print_held(room, held) {
-        say_broken();
-        return;
+fn say_end(
+    out: &mut impl Write,
+    errors: &mut impl Write,
+    room: &[u8],
+    held: usize,
+    cut: bool,
+    calls: u64,
+) -> io::Result<()> {
+    if !print_held(out, room, held) {
+        say_broken(errors);
+        return Ok(());
     }
     if cut {
-        say(b"cut\n");
+        say(out, b"cut\n")?;
     }
-    say_calls(calls);
+    say_calls(out, calls)
 }
 
-fn main() {
+fn main(rt: HostRuntime) -> io::Result<()> {
+    let mut stdin = rt.stdin();
+    let mut stdout = rt.stdout();
+    let mut stderr = rt.stderr();
     let mut space = census_memory();
     let mut read = values_room();
-    let mut lines = io::large_buffer();
+    let mut lines = console::large_buffer();
     let memory: &mut [u8] = &mut space;
     let values: &mut [u8] = &mut read;
     let room: &mut [u8] = &mut lines;
@@ -376,37 +366,37 @@ fn main() {
     let mut cut = false;
     let mut calls: u64 = 0;
     while calls < MOST_CALLS {
-        match read_frame(values) {
-            Frame::Start(bytes) => {
+        match read_frame(&mut stdin, values) {
+            Ok(Frame::Start(bytes)) => {
                 census = counts::start();
                 lent = bytes;
                 held = room::put_bytes(room, held, b"started\n");
             }
-            Frame::Call(call) => {
+            Ok(Frame::Call(call)) => {
                 // all of it: the memory has as many bytes as may be lent
                 let most = text::least(lent, memory.len());
                 let after = answer(call, census, &mut memory[..most], values, room, held);
                 census = after.census;
                 held = after.held;
             }
-            Frame::End => break,
-            Frame::Cut => {
+            Ok(Frame::End) => break,
+            Ok(Frame::Cut) => {
                 cut = true;
                 break;
             }
-            Frame::Broken => {
-                say_broken();
-                return;
+            Err(_) => {
+                say_broken(&mut stderr);
+                return Ok(());
             }
         }
         calls += 1;
-        match print_much(room, held) {
+        match print_much(&mut stdout, room, held) {
             Held::Bytes(n) => held = n,
             Held::Unprinted => {
-                say_broken();
-                return;
+                say_broken(&mut stderr);
+                return Ok(());
             }
         }
     }
-    say_end(room, held, cut, calls);
+    say_end(&mut stdout, &mut stderr, room, held, cut, calls)
 }

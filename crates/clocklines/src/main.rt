@@ -3,8 +3,8 @@
 
 ghost use Rattle.std.specs.Prelude.{◌≡◌, ◌≤◌, length};
 
-use libc::{STDERR_FILENO, STDIN_FILENO, STDOUT_FILENO};
 use lines::{Filling, State};
+use std::io::{Read, Write};
 use text::Place;
 
 // How many bytes came, none at the end of the input; whether they were read and what is printed for them was written; and the state after them.
@@ -28,26 +28,31 @@ fn output() -> [u8; 73740]
     [0; 73740]
 }
 
-fn write_filling(room: &[u8], filling: Filling) -> bool {
+fn write_filling(out: &mut impl Write, room: &[u8], filling: Filling) -> bool {
     let Filling::Filled(len) = filling else {
         return false;
     };
-    io::write_all(STDOUT_FILENO, text::part(room, Place { start: 0, len }))
+    console::write_all(out, text::part(room, Place { start: 0, len })).is_ok()
 }
 
 // Reads once, and writes what is printed for what came.
-fn take_fragment(state: State, memory: &mut [u8; 4098], space: &mut [u8], room: &mut [u8]) -> Taken
+fn take_fragment(
+    input: &mut impl Read,
+    out: &mut impl Write,
+    state: State,
+    memory: &mut [u8; 4098],
+    space: &mut [u8],
+    room: &mut [u8],
+) -> Taken
     ensures { result.read ≤ length space.old }
 {
-    let got = libc::read(STDIN_FILENO, space);
-    if got < 0 {
+    let Ok(n) = input.read(space) else {
         return Taken {
             read: 0,
             whole: false,
             state,
         };
-    }
-    let n = io::count(got, space);
+    };
     if n == 0 {
         return Taken {
             read: 0,
@@ -58,7 +63,7 @@ fn take_fragment(state: State, memory: &mut [u8; 4098], space: &mut [u8], room: 
     let fed = lines::feed(state, memory, &space[..n], room);
     let filling = fed.filling;
     let next = fed.state;
-    let whole = write_filling(room, filling);
+    let whole = write_filling(out, room, filling);
     Taken {
         read: n,
         whole,
@@ -67,14 +72,17 @@ fn take_fragment(state: State, memory: &mut [u8; 4098], space: &mut [u8], room: 
 }
 
 // A report that is not whole has no totals, and says so.
-fn say_broken() {
-    io::write_all(
-        STDERR_FILENO,
+fn say_broken(errors: &mut impl Write) {
+    let _ = console::write_all(
+        errors,
         b"the input could not be read, or the output not written: the report is not whole\n",
     );
 }
 
-fn main() {
+fn main(rt: HostRuntime) {
+    let mut stdin = rt.stdin();
+    let mut stdout = rt.stdout();
+    let mut stderr = rt.stderr();
     let mut memory = lines::open_line();
     let mut buffer = input();
     let mut printed = output();
@@ -85,9 +93,16 @@ fn main() {
     let mut left = lines::MOST_READ;
     while 0 < left {
         let most = text::least(left, space.len());
-        let taken = take_fragment(state, &mut memory, &mut space[..most], room);
+        let taken = take_fragment(
+            &mut stdin,
+            &mut stdout,
+            state,
+            &mut memory,
+            &mut space[..most],
+            room,
+        );
         if !taken.whole {
-            say_broken();
+            say_broken(&mut stderr);
             return;
         }
         state = taken.state;
@@ -98,7 +113,7 @@ fn main() {
     }
     let last = lines::close(state, &memory, room);
     let filling = last.filling;
-    if !write_filling(room, filling) {
-        say_broken();
+    if !write_filling(&mut stdout, room, filling) {
+        say_broken(&mut stderr);
     }
 }

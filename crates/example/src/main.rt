@@ -4,42 +4,51 @@
 ghost use Rattle.std.specs.Prelude.{◌≡◌, length};
 
 use clock::{ReferenceClockRead, Wrote};
-use libc::STDOUT_FILENO;
-use lines::{Fed, Filling};
+use lines::{Fed, Filling, Unfed};
+use std::io;
+use std::io::Write;
 use text::Place;
 
 // How many bytes the link brings at a time.
 const FRAGMENT: usize = 16;
 
-fn show(line: &[u8]) {
-    io::write_all(STDOUT_FILENO, line);
-    io::write_all(STDOUT_FILENO, b"\n");
+fn show(out: &mut impl Write, line: &[u8]) -> io::Result<()> {
+    console::write_all(out, line)?;
+    console::write_all(out, b"\n")
 }
 
-fn show_written(room: &[u8], wrote: Wrote) {
+fn show_written(out: &mut impl Write, room: &[u8], wrote: Wrote) -> io::Result<()> {
     if let Wrote::Length(len) = wrote {
-        show(text::part(room, Place { start: 0, len }));
+        show(out, text::part(room, Place { start: 0, len }))?;
     }
+    Ok(())
 }
 
-fn show_same(same: bool) {
+fn show_same(out: &mut impl Write, same: bool) -> io::Result<()> {
     if same {
-        show(b"one clock");
+        show(out, b"one clock")
     } else {
-        show(b"two clocks");
+        show(out, b"two clocks")
     }
 }
 
-fn show_fed(room: &[u8], fed: Fed) {
+// The number that is owed for a refusal.
+fn refusal_number(why: Unfed) -> u8 {
+    match why {
+        Unfed::Closed => 28,
+        Unfed::OverLimit => 37,
+        Unfed::NoRoom => 24,
+    }
+}
+
+fn show_fed(out: &mut impl Write, room: &[u8], fed: Fed) -> io::Result<()> {
     let filling = fed.filling;
     match filling {
-        Filling::Filled(len) => {
-            io::write_all(STDOUT_FILENO, text::part(room, Place { start: 0, len }));
-        }
+        Filling::Filled(len) => console::write_all(out, text::part(room, Place { start: 0, len })),
         Filling::Refused(why) => {
-            io::write_all(STDOUT_FILENO, b"refused with ");
-            io::print_decimal(STDOUT_FILENO, lines::refusal_number(why) as u64);
-            show(b"");
+            console::write_all(out, b"refused with ")?;
+            console::print_decimal(out, refusal_number(why) as u64)?;
+            show(out, b"")
         }
     }
 }
@@ -51,21 +60,22 @@ fn room_for_fragment() -> [u8; 24684]
     [0; 24684]
 }
 
-fn call_on_values<'a>(value: &'a [u8], other: &'a [u8]) {
+fn call_on_values<'a>(out: &mut impl Write, value: &'a [u8], other: &'a [u8]) -> io::Result<()> {
     let mut room = [0u8; 1026];
     // What you call: begin
     // a value is read, its record written back, and two values are compared
     let ReferenceClockRead::Accepted(clock) = refclk::read_reference_clock(value) else {
-        return;
+        return Ok(());
     };
     let wrote = writing::write_reference_clock(clock, value, &mut room);
-    show_written(&room, wrote);
-    show_same(questions::same_clock(value, other));
-    show(questions::governing_clock(other, value));
+    show_written(out, &room, wrote)?;
+    show_same(out, questions::same_clock(value, other))?;
+    show(out, questions::governing_clock(other, value))?;
     // What you call: end
+    Ok(())
 }
 
-fn call_on_lines(text: &[u8]) {
+fn call_on_lines(out: &mut impl Write, text: &[u8]) -> io::Result<()> {
     let mut space = room_for_fragment();
     let room: &mut [u8] = &mut space;
     let mut at: usize = 0;
@@ -77,14 +87,20 @@ fn call_on_lines(text: &[u8]) {
         let fed = lines::feed(state, &mut memory, &text[at..at + n], room);
         at += n;
         state = fed.state;
-        show_fed(room, fed);
+        show_fed(out, room, fed)?;
     }
     let last = lines::close(state, &memory, room);
-    show_fed(room, last);
+    show_fed(out, room, last)?;
     // Lines over a link: end
+    Ok(())
 }
 
-fn main() {
-    call_on_values(b"ntp=time.example:+080", b"ntp=time.example:80");
-    call_on_lines(b"a=mediaclk:direct=+0\ns=demo\n");
+fn main(rt: HostRuntime) -> io::Result<()> {
+    let mut stdout = rt.stdout();
+    call_on_values(
+        &mut stdout,
+        b"ntp=time.example:+080",
+        b"ntp=time.example:80",
+    )?;
+    call_on_lines(&mut stdout, b"a=mediaclk:direct=+0\ns=demo\n")
 }

@@ -7,8 +7,9 @@
 
 ghost use Rattle.std.specs.Prelude.{◌≡◌, length};
 
-use libc::{STDERR_FILENO, STDIN_FILENO, STDOUT_FILENO};
 use lines::{Fed, Filling, State, Unfed};
+use std::io;
+use std::io::{Read, Write};
 use text::Place;
 
 const MOST_CALLS: u64 = 4294967295;
@@ -33,13 +34,12 @@ enum Call {
     Close(usize),
 }
 
-// The next frame: a call; or none; or one that is cut; or the input could not be read.
+// The next frame: a call; or none; or one that is cut.
 #[derive(Clone, Copy)]
 enum Frame {
     Call(Call),
     End,
     Cut,
-    Broken,
 }
 
 // A number that was read, or the input has no more.
@@ -70,78 +70,57 @@ fn room_space() -> [u8; 400000]
     [0; 400000]
 }
 
-// Whether the input stopped because a read failed: at its end one more read answers 0.
-fn is_input_broken() -> bool {
-    let mut one = [0u8; 1];
-    libc::read(STDIN_FILENO, &mut one) != 0
-}
-
-// Where not even a letter came.
-fn no_frame() -> Frame {
-    if is_input_broken() {
-        return Frame::Broken;
-    }
-    Frame::End
-}
-
-// A frame of which some bytes did not come.
-fn short_frame() -> Frame {
-    if is_input_broken() {
-        return Frame::Broken;
-    }
-    Frame::Cut
-}
-
-fn read_number() -> ReadNumber {
+fn read_number(input: &mut impl Read) -> io::Result<ReadNumber> {
     let mut number = [0u8; 4];
-    if io::read_full(STDIN_FILENO, &mut number) < 4 {
-        return ReadNumber::Short;
+    if console::read_full(input, &mut number)? < 4 {
+        return Ok(ReadNumber::Short);
     }
-    ReadNumber::Value(quads::number_at(&number, 0) as usize)
+    Ok(ReadNumber::Value(quads::number_at(&number, 0) as usize))
 }
 
 // Whether so many bytes, at most all that there is space for, were read.
-fn is_read(space: &mut [u8], len: usize) -> bool {
+fn is_read(input: &mut impl Read, space: &mut [u8], len: usize) -> io::Result<bool> {
     let most = text::least(len, space.len());
-    io::read_full(STDIN_FILENO, &mut space[0..most]) == len
+    let got = console::read_full(input, &mut space[0..most])?;
+    Ok(got == len)
 }
 
-fn read_fragment(space: &mut [u8]) -> Frame {
-    let ReadNumber::Value(room) = read_number() else {
-        return short_frame();
+fn read_fragment(input: &mut impl Read, space: &mut [u8]) -> io::Result<Frame> {
+    let ReadNumber::Value(room) = read_number(input)? else {
+        return Ok(Frame::Cut);
     };
-    let ReadNumber::Value(len) = read_number() else {
-        return short_frame();
+    let ReadNumber::Value(len) = read_number(input)? else {
+        return Ok(Frame::Cut);
     };
     if MOST_ROOM < room || MOST_FRAGMENT < len {
-        return Frame::Cut;
+        return Ok(Frame::Cut);
     }
-    if is_read(space, len) {
-        return Frame::Call(Call::Feed { room, len });
+    if is_read(input, space, len)? {
+        return Ok(Frame::Call(Call::Feed { room, len }));
     }
-    short_frame()
+    Ok(Frame::Cut)
 }
 
-fn read_closing() -> Frame {
-    let ReadNumber::Value(room) = read_number() else {
-        return short_frame();
+fn read_closing(input: &mut impl Read) -> io::Result<Frame> {
+    let ReadNumber::Value(room) = read_number(input)? else {
+        return Ok(Frame::Cut);
     };
     if MOST_ROOM < room {
-        return Frame::Cut;
+        return Ok(Frame::Cut);
     }
-    Frame::Call(Call::Close(room))
+    Ok(Frame::Call(Call::Close(room)))
 }
 
-fn read_frame(space: &mut [u8]) -> Frame {
+fn read_frame(input: &mut impl Read, space: &mut [u8]) -> io::Result<Frame> {
     let mut letter = [0u8; 1];
-    if io::read_full(STDIN_FILENO, &mut letter) < 1 {
-        return no_frame();
+    if console::read_full(input, &mut letter)? < 1 {
+        return Ok(Frame::End);
     }
     match letter[0] {
-        b's' => Frame::Call(Call::Start),
-        b'f' => read_fragment(space),
-        b'x' => read_closing(),
-        _ => Frame::Cut,
+        b's' => Ok(Frame::Call(Call::Start)),
+        b'f' => read_fragment(input, space),
+        b'x' => read_closing(input),
+        _ => Ok(Frame::Cut),
     }
 }
 
@@ -151,43 +130,43 @@ fn put_item(output: &mut [u8], at: usize, word: &[u8], n: u64) -> usize {
     digits::put_decimal_u64(output, number, n)
 }
 
-fn print_held(output: &[u8], held: usize) -> bool {
+fn print_held(to: &mut impl Write, output: &[u8], held: usize) -> bool {
     let front = Place {
         start: 0,
         len: held,
     };
-    io::write_all(STDOUT_FILENO, text::part(output, front))
+    console::write_all(to, text::part(output, front)).is_ok()
 }
 
 // What is held is printed where it is much.
-fn print_much(output: &[u8], held: usize) -> Held {
+fn print_much(to: &mut impl Write, output: &[u8], held: usize) -> Held {
     if held < MUCH_HELD {
         return Held::Bytes(held);
     }
-    if print_held(output, held) {
+    if print_held(to, output, held) {
         return Held::Bytes(0);
     }
     Held::Unprinted
 }
 
 // The end of a line behind what is held.
-fn end_line(output: &mut [u8], held: usize) -> Held {
+fn end_line(to: &mut impl Write, output: &mut [u8], held: usize) -> Held {
     let end = room::put_byte(output, held, b'\n');
-    print_much(output, end)
+    print_much(to, output, end)
 }
 
-fn hold_part(part: &[u8], output: &mut [u8], held: usize) -> Held {
+fn hold_part(to: &mut impl Write, part: &[u8], output: &mut [u8], held: usize) -> Held {
     let end = digits::put_hex_bytes(output, held, part);
-    print_much(output, end)
+    print_much(to, output, end)
 }
 
 // The bytes in base 16, part by part, behind what is held.
-fn hold_bytes(filled: &[u8], output: &mut [u8], begun: usize) -> Held {
+fn hold_bytes(to: &mut impl Write, filled: &[u8], output: &mut [u8], begun: usize) -> Held {
     let mut held = begun;
     let mut i = 0;
     while i < filled.len() {
         let n = text::least(PART, filled.len() - i);
-        match hold_part(&filled[i..i + n], output, held) {
+        match hold_part(to, &filled[i..i + n], output, held) {
             Held::Bytes(more) => {
                 held = more;
                 i += n;
@@ -198,54 +177,77 @@ fn hold_bytes(filled: &[u8], output: &mut [u8], begun: usize) -> Held {
     Held::Bytes(held)
 }
 
-fn hold_filled(filled: &[u8], output: &mut [u8], held: usize) -> Held {
+fn hold_filled(to: &mut impl Write, filled: &[u8], output: &mut [u8], held: usize) -> Held {
     let end = put_item(output, held, b"filled ", filled.len() as u64);
     if filled.len() == 0 {
-        return end_line(output, end);
+        return end_line(to, output, end);
     }
     let bytes = room::put_byte(output, end, b' ');
-    match hold_bytes(filled, output, bytes) {
-        Held::Bytes(n) => end_line(output, n),
+    match hold_bytes(to, filled, output, bytes) {
+        Held::Bytes(n) => end_line(to, output, n),
         Held::Unprinted => Held::Unprinted,
     }
 }
 
-fn hold_refusal(why: Unfed, output: &mut [u8], held: usize) -> Held {
-    let end = put_item(output, held, b"no ", lines::refusal_number(why) as u64);
-    end_line(output, end)
+// The number that is owed for a refusal.
+fn refusal_number(why: Unfed) -> u8 {
+    match why {
+        Unfed::Closed => 28,
+        Unfed::OverLimit => 37,
+        Unfed::NoRoom => 24,
+    }
+}
+
+fn hold_refusal(to: &mut impl Write, why: Unfed, output: &mut [u8], held: usize) -> Held {
+    let end = put_item(output, held, b"no ", refusal_number(why) as u64);
+    end_line(to, output, end)
 }
 
 // The line of a call behind what is held.
-fn hold_filling(filling: Filling, room: &[u8], output: &mut [u8], held: usize) -> Held {
+fn hold_filling(
+    to: &mut impl Write,
+    filling: Filling,
+    room: &[u8],
+    output: &mut [u8],
+    held: usize,
+) -> Held {
     match filling {
         Filling::Filled(len) => hold_filled(
+            to,
             text::part(room, Place { start: 0, len }),
             output,
             held,
         ),
-        Filling::Refused(why) => hold_refusal(why, output, held),
+        Filling::Refused(why) => hold_refusal(to, why, output, held),
     }
 }
 
-fn hold_fed(fed: Fed, room: &[u8], output: &mut [u8], held: usize) -> Answered {
+fn hold_fed(
+    to: &mut impl Write,
+    fed: Fed,
+    room: &[u8],
+    output: &mut [u8],
+    held: usize,
+) -> Answered {
     let filling = fed.filling;
     let state = fed.state;
     Answered {
         state,
-        held: hold_filling(filling, room, output, held),
+        held: hold_filling(to, filling, room, output, held),
     }
 }
 
 // A fresh reader, beside the memory as the last one left it: its contents do no harm.
-fn start(output: &mut [u8], held: usize) -> Answered {
+fn start(to: &mut impl Write, output: &mut [u8], held: usize) -> Answered {
     let end = room::put_bytes(output, held, b"started");
     Answered {
         state: lines::start(),
-        held: end_line(output, end),
+        held: end_line(to, output, end),
     }
 }
 
 fn feed(
+    to: &mut impl Write,
     state: State,
     memory: &mut [u8; 4098],
     fragment: &[u8],
@@ -254,10 +256,11 @@ fn feed(
     held: usize,
 ) -> Answered {
     let fed = lines::feed(state, memory, fragment, room);
-    hold_fed(fed, room, output, held)
+    hold_fed(to, fed, room, output, held)
 }
 
 fn close(
+    to: &mut impl Write,
     state: State,
     memory: &[u8; 4098],
     room: &mut [u8],
@@ -265,11 +268,12 @@ fn close(
     held: usize,
 ) -> Answered {
     let fed = lines::close(state, memory, room);
-    hold_fed(fed, room, output, held)
+    hold_fed(to, fed, room, output, held)
 }
 
 // Does a call, which is lent the front of the room, and holds its line behind what is held.
 fn answer(
+    to: &mut impl Write,
     call: Call,
     state: State,
     memory: &mut [u8; 4098],
@@ -279,53 +283,71 @@ fn answer(
     held: usize,
 ) -> Answered {
     match call {
-        Call::Start => start(output, held),
+        Call::Start => start(to, output, held),
         Call::Feed { room: lent, len } => {
             let most = text::least(lent, room.len());
             let fragment = text::part(space, Place { start: 0, len });
-            feed(state, memory, fragment, &mut room[0..most], output, held)
+            feed(
+                to,
+                state,
+                memory,
+                fragment,
+                &mut room[0..most],
+                output,
+                held,
+            )
         }
         Call::Close(lent) => {
             let most = text::least(lent, room.len());
-            close(state, memory, &mut room[0..most], output, held)
+            close(to, state, memory, &mut room[0..most], output, held)
         }
     }
 }
 
-fn say(word: &[u8]) {
-    io::write_all(STDOUT_FILENO, word);
+fn say(to: &mut impl Write, word: &[u8]) -> io::Result<()> {
+    console::write_all(to, word)
 }
 
 // What was not read or not written whole has no count, and says so.
-fn say_broken() {
-    io::write_all(
-        STDERR_FILENO,
+fn say_broken(errors: &mut impl Write) {
+    let _ = console::write_all(
+        errors,
         b"the input could not be read, or the output not written: the count is left out\n",
     );
 }
 
-fn say_calls(calls: u64) {
-    say(b"calls ");
-    io::print_decimal(STDOUT_FILENO, calls);
-    say(b"\n");
+fn say_calls(to: &mut impl Write, calls: u64) -> io::Result<()> {
+    say(to, b"calls ")?;
+    console::print_decimal(to, calls)?;
+    say(to, b"\n")
 }
 
-fn say_end(output: &[u8], held: usize, cut: bool, calls: u64) {
-    if !print_held(output, held) {
-        say_broken();
-        return;
+fn say_end(
+    to: &mut impl Write,
+    errors: &mut impl Write,
+    output: &[u8],
+    held: usize,
+    cut: bool,
+    calls: u64,
+) -> io::Result<()> {
+    if !print_held(to, output, held) {
+        say_broken(errors);
+        return Ok(());
     }
     if cut {
-        say(b"cut\n");
+        say(to, b"cut\n")?;
     }
-    say_calls(calls);
+    say_calls(to, calls)
 }
 
-fn main() {
+fn main(rt: HostRuntime) -> io::Result<()> {
+    let mut stdin = rt.stdin();
+    let mut stdout = rt.stdout();
+    let mut stderr = rt.stderr();
     let mut memory = lines::open_line();
-    let mut fragment = io::large_buffer();
+    let mut fragment = console::large_buffer();
     let mut lent = room_space();
-    let mut lines_held = io::large_buffer();
+    let mut lines_held = console::large_buffer();
     let space: &mut [u8] = &mut fragment;
     let room: &mut [u8] = &mut lent;
     let output: &mut [u8] = &mut lines_held;
@@ -334,9 +356,18 @@ fn main() {
     let mut cut = false;
     let mut calls: u64 = 0;
     while calls < MOST_CALLS {
-        match read_frame(space) {
-            Frame::Call(call) => {
-                let after = answer(call, state, &mut memory, space, room, output, held);
+        match read_frame(&mut stdin, space) {
+            Ok(Frame::Call(call)) => {
+                let after = answer(
+                    &mut stdout,
+                    call,
+                    state,
+                    &mut memory,
+                    space,
+                    room,
+                    output,
+                    held,
+                );
                 let printed = after.held;
                 match printed {
                     Held::Bytes(n) => {
@@ -345,21 +376,21 @@ fn main() {
                         calls += 1;
                     }
                     Held::Unprinted => {
-                        say_broken();
-                        return;
+                        say_broken(&mut stderr);
+                        return Ok(());
                     }
                 }
             }
-            Frame::End => break,
-            Frame::Cut => {
+            Ok(Frame::End) => break,
+            Ok(Frame::Cut) => {
                 cut = true;
                 break;
             }
-            Frame::Broken => {
-                say_broken();
-                return;
+            Err(_) => {
+                say_broken(&mut stderr);
+                return Ok(());
             }
         }
     }
-    say_end(output, held, cut, calls);
+    say_end(&mut stdout, &mut stderr, output, held, cut, calls)
 }

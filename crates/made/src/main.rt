@@ -10,8 +10,9 @@ mod reference;
 
 use arguments::Arguments;
 use clock::{ReferenceClock, TriedReferenceClock, Wrote};
-use libc::{STDERR_FILENO, STDIN_FILENO, STDOUT_FILENO};
 use mediarecord::MediaClockSource;
+use std::io;
+use std::io::{Read, Write};
 use text::Place;
 
 // How many frames are read.
@@ -26,56 +27,68 @@ pub enum FrameSaid {
     Broken,
 }
 
-fn say(word: &[u8]) {
-    io::write_all(STDOUT_FILENO, word);
+fn say(out: &mut impl Write, word: &[u8]) -> io::Result<()> {
+    console::write_all(out, word)
 }
 
-fn say_number(n: u64) {
-    io::print_decimal(STDOUT_FILENO, n);
+fn say_number(out: &mut impl Write, n: u64) -> io::Result<()> {
+    console::print_decimal(out, n)
 }
 
-fn say_refusal(number: u8) -> FrameSaid {
-    say(b"no ");
-    say_number(number as u64);
-    say(b"\n");
-    FrameSaid::Refusal
+fn say_refusal(out: &mut impl Write, number: u8) -> io::Result<FrameSaid> {
+    say(out, b"no ")?;
+    say_number(out, number as u64)?;
+    say(out, b"\n")?;
+    Ok(FrameSaid::Refusal)
 }
 
-fn say_text(text: &[u8]) -> FrameSaid {
-    say(b"ok ");
-    say(text);
-    say(b"\n");
-    FrameSaid::Record
+fn say_text(out: &mut impl Write, text: &[u8]) -> io::Result<FrameSaid> {
+    say(out, b"ok ")?;
+    say(out, text)?;
+    say(out, b"\n")?;
+    Ok(FrameSaid::Record)
 }
 
 // No writing is refused of a record whose places lie inside a value that is this short.
-fn say_written(room: &[u8], wrote: Wrote) -> FrameSaid {
+fn say_written(out: &mut impl Write, room: &[u8], wrote: Wrote) -> io::Result<FrameSaid> {
     match wrote {
-        Wrote::Length(len) => say_text(text::part(room, Place { start: 0, len })),
+        Wrote::Length(len) => say_text(out, text::part(room, Place { start: 0, len })),
         Wrote::Refused(_) => {
-            say(b"no\n");
-            FrameSaid::Refusal
+            say(out, b"no\n")?;
+            Ok(FrameSaid::Refusal)
         }
     }
 }
 
-fn say_reference(clock: ReferenceClock, value: &[u8]) -> FrameSaid {
+fn say_reference(
+    out: &mut impl Write,
+    clock: ReferenceClock,
+    value: &[u8],
+) -> io::Result<FrameSaid> {
     // long enough for any record over a value of 256 bytes
     let mut room = [0u8; 820];
     let wrote = writing::write_reference_clock(clock, value, &mut room);
-    say_written(&room, wrote)
+    say_written(out, &room, wrote)
 }
 
-fn say_media(source: MediaClockSource, value: &[u8]) -> FrameSaid {
+fn say_media(
+    out: &mut impl Write,
+    source: MediaClockSource,
+    value: &[u8],
+) -> io::Result<FrameSaid> {
     let mut room = [0u8; 820];
     let wrote = writing::write_media_clock_source(source, value, &mut room);
-    say_written(&room, wrote)
+    say_written(out, &room, wrote)
 }
 
-fn say_tried(tried: TriedReferenceClock, value: &[u8]) -> FrameSaid {
+fn say_tried(
+    out: &mut impl Write,
+    tried: TriedReferenceClock,
+    value: &[u8],
+) -> io::Result<FrameSaid> {
     match tried {
-        TriedReferenceClock::Made(clock) => say_reference(clock, value),
-        TriedReferenceClock::Refused(number) => say_refusal(number),
+        TriedReferenceClock::Made(clock) => say_reference(out, clock, value),
+        TriedReferenceClock::Refused(number) => say_refusal(out, number),
     }
 }
 
@@ -94,96 +107,111 @@ fn is_media(row: u8) -> bool {
     }
 }
 
-fn say_call(row: u8, a: Arguments, value: &[u8]) -> FrameSaid {
+fn say_call(out: &mut impl Write, row: u8, a: Arguments, value: &[u8]) -> io::Result<FrameSaid> {
     if is_tried(row) {
-        return say_tried(reference::tried(row, a), value);
+        return say_tried(out, reference::tried(row, a), value);
     }
     if is_media(row) {
-        return say_media(media::made(row, a), value);
+        return say_media(out, media::made(row, a), value);
     }
-    say_reference(reference::made(row, a), value)
+    say_reference(out, reference::made(row, a), value)
 }
 
-// Whether the input stopped because a read failed: at its end one more read answers 0.
-fn is_input_broken() -> bool {
+// Whether the input goes on or a read fails: at its end one more read answers 0.
+fn is_input_broken(input: &mut impl Read) -> bool {
     let mut one = [0u8; 1];
-    libc::read(STDIN_FILENO, &mut one) != 0
+    match input.read(&mut one) {
+        Ok(n) => n != 0,
+        Err(_) => true,
+    }
 }
 
-fn cut() -> FrameSaid {
-    say(b"cut\n");
-    FrameSaid::Nothing
+fn cut(out: &mut impl Write) -> io::Result<FrameSaid> {
+    say(out, b"cut\n")?;
+    Ok(FrameSaid::Nothing)
 }
 
 // A frame of which only so many bytes came.
-fn short_frame(got: usize) -> FrameSaid {
-    if is_input_broken() {
-        return FrameSaid::Broken;
+fn short_frame(input: &mut impl Read, out: &mut impl Write, got: usize) -> io::Result<FrameSaid> {
+    if is_input_broken(input) {
+        return Ok(FrameSaid::Broken);
     }
     if got == 0 {
-        return FrameSaid::Nothing;
+        return Ok(FrameSaid::Nothing);
     }
-    cut()
+    cut(out)
 }
 
 // Whether so many bytes were read; the space must hold them.
-fn is_read(space: &mut [u8], len: usize) -> bool {
+fn is_read(input: &mut impl Read, space: &mut [u8], len: usize) -> io::Result<bool> {
     if space.len() < len {
-        return false;
+        return Ok(false);
     }
-    io::read_full(STDIN_FILENO, &mut space[..len]) == len
+    let got = console::read_full(input, &mut space[..len])?;
+    Ok(got == len)
 }
 
-fn say_frame(head: &[u8; 39]) -> FrameSaid {
+fn say_frame(
+    input: &mut impl Read,
+    out: &mut impl Write,
+    head: &[u8; 39],
+) -> io::Result<FrameSaid> {
     let mut space = [0u8; 256];
     let behind = arguments::two(head, 1) as usize;
     if behind < 36 {
-        return cut();
+        return cut(out);
     }
     let len = behind - 36;
-    if is_read(&mut space, len) {
+    let Ok(whole) = is_read(input, &mut space, len) else {
+        return Ok(FrameSaid::Broken);
+    };
+    if whole {
         let value = text::part(&space, Place { start: 0, len });
-        return say_call(head[0], Arguments::of(head), value);
+        return say_call(out, head[0], Arguments::of(head), value);
     }
-    short_frame(39)
+    short_frame(input, out, 39)
 }
 
-fn say_next() -> FrameSaid {
+fn say_next(input: &mut impl Read, out: &mut impl Write) -> io::Result<FrameSaid> {
     let mut head = [0u8; 39];
-    let got = io::read_full(STDIN_FILENO, &mut head);
+    let Ok(got) = console::read_full(input, &mut head) else {
+        return Ok(FrameSaid::Broken);
+    };
     if got < 39 {
-        return short_frame(got);
+        return short_frame(input, out, got);
     }
-    say_frame(&head)
+    say_frame(input, out, &head)
 }
 
 // What was not read whole has no sums, and says so.
-fn say_broken() {
-    io::write_all(
-        STDERR_FILENO,
+fn say_broken(errors: &mut impl Write) {
+    let _ = console::write_all(
+        errors,
         b"the input could not be read: the sums are left out\n",
     );
 }
 
-fn say_sums(frames: u64, records: u64, refusals: u64) {
-    say(b"frames ");
-    say_number(frames);
-    say(b" ok ");
-    say_number(records);
-    say(b" no ");
-    say_number(refusals);
-    say(b"\n");
+fn say_sums(out: &mut impl Write, frames: u64, records: u64, refusals: u64) -> io::Result<()> {
+    say(out, b"frames ")?;
+    say_number(out, frames)?;
+    say(out, b" ok ")?;
+    say_number(out, records)?;
+    say(out, b" no ")?;
+    say_number(out, refusals)?;
+    say(out, b"\n")
 }
 
-fn main() {
+fn main(rt: HostRuntime) -> io::Result<()> {
+    let mut stdin = rt.stdin();
+    let mut stdout = rt.stdout();
     let mut frames: u64 = 0;
     let mut records: u64 = 0;
     while frames < MOST_FRAMES {
-        match say_next() {
+        match say_next(&mut stdin, &mut stdout)? {
             FrameSaid::Nothing => break,
             FrameSaid::Broken => {
-                say_broken();
-                return;
+                say_broken(&mut rt.stderr());
+                return Ok(());
             }
             FrameSaid::Refusal => frames += 1,
             FrameSaid::Record => {
@@ -192,5 +220,5 @@ fn main() {
             }
         }
     }
-    say_sums(frames, records, frames - records);
+    say_sums(&mut stdout, frames, records, frames - records)
 }

@@ -8,7 +8,8 @@
 ghost use Rattle.std.specs.Prelude.{◌≡◌, ◌≤◌, length};
 
 use counts::Census;
-use libc::{STDERR_FILENO, STDIN_FILENO, STDOUT_FILENO};
+use std::io;
+use std::io::{Read, Write};
 use streams::MOST_CLOCKS;
 use text::Place;
 
@@ -23,18 +24,17 @@ const SLOT_SIZE: usize = 1036;
 // Sums stop here.
 const MOST: u64 = 18446744073709551615;
 
-// A census was read, whose slots stand at the front of the memory; or none; or one that is cut; or the input could not be read.
+// A census was read, whose slots stand at the front of the memory; or none; or one that is cut.
 #[derive(Clone, Copy)]
 enum Found {
     Kept,
     End,
     Cut,
-    Broken,
 }
 
 // Beside it the census.
 #[derive(Clone, Copy)]
-struct Read {
+struct KeptRead {
     found: Found,
     census: Census,
 }
@@ -75,25 +75,16 @@ fn slot_number(high: u8, low: u8) -> u16 {
     high as u16 * 256 + low as u16
 }
 
-// Whether the input stopped because a read failed: at its end one more read answers 0.
-fn is_input_broken() -> bool {
-    let mut one = [0u8; 1];
-    libc::read(STDIN_FILENO, &mut one) != 0
-}
-
 // A census of which only so many bytes came.
 fn short(got: usize) -> Found {
-    if is_input_broken() {
-        return Found::Broken;
-    }
     if got == 0 {
         return Found::End;
     }
     Found::Cut
 }
 
-fn nothing(found: Found) -> Read {
-    Read {
+fn nothing(found: Found) -> KeptRead {
+    KeptRead {
         found,
         census: counts::start(),
     }
@@ -110,32 +101,32 @@ fn read_domains(head: &[u8]) -> [u32; 128] {
 }
 
 // The slots, so many bytes, are read to the front of the memory, which has room for them.
-fn read_slots(memory: &mut [u8], bytes: usize) -> Found {
+fn read_slots(input: &mut impl Read, memory: &mut [u8], bytes: usize) -> io::Result<Found> {
     if memory.len() < bytes {
-        return Found::Cut;
+        return Ok(Found::Cut);
     }
-    if io::read_full(STDIN_FILENO, &mut memory[0..bytes]) < bytes {
-        return short(HEAD);
+    if console::read_full(input, &mut memory[0..bytes])? < bytes {
+        return Ok(short(HEAD));
     }
-    Found::Kept
+    Ok(Found::Kept)
 }
 
-fn read_census(memory: &mut [u8]) -> Read {
+fn read_census(input: &mut impl Read, memory: &mut [u8]) -> io::Result<KeptRead> {
     let mut head = [0u8; 522];
-    let got = io::read_full(STDIN_FILENO, &mut head);
+    let got = console::read_full(input, &mut head)?;
     if got < HEAD {
-        return nothing(short(got));
+        return Ok(nothing(short(got)));
     }
     let used = slot_number(head[0], head[1]);
     if MOST_CLOCKS < used {
-        return nothing(Found::Cut);
+        return Ok(nothing(Found::Cut));
     }
     let bytes = used as usize * SLOT_SIZE;
-    let found = read_slots(memory, bytes);
+    let found = read_slots(input, memory, bytes)?;
     let total = quads::number_at(&head, 2);
     let refused = quads::number_at(&head, 6);
     let domains = read_domains(&head);
-    Read {
+    Ok(KeptRead {
         found,
         census: Census {
             used,
@@ -143,7 +134,7 @@ fn read_census(memory: &mut [u8]) -> Read {
             refused,
             domains,
         },
-    }
+    })
 }
 
 // A word, and a number behind it.
@@ -167,10 +158,16 @@ fn put_sums(room: &mut [u8], at: usize, when: &[u8], census: Census, memory: &[u
     room::put_byte(room, end, b'\n')
 }
 
-fn print_census(when: &[u8], census: Census, memory: &[u8], room: &mut [u8]) -> bool {
+fn print_census(
+    out: &mut impl Write,
+    when: &[u8],
+    census: Census,
+    memory: &[u8],
+    room: &mut [u8],
+) -> bool {
     let sums = rolltext::put_counts(room, census, memory);
     let end = put_sums(room, sums, when, census, memory);
-    io::write_all(STDOUT_FILENO, front(room, end))
+    console::write_all(out, front(room, end)).is_ok()
 }
 
 fn streams_in(census: Census, memory: &[u8]) -> u64 {
@@ -178,12 +175,12 @@ fn streams_in(census: Census, memory: &[u8]) -> u64 {
 }
 
 // A uniting is refused for want of memory alone, and there is enough.
-fn unite_census(census: Census, memory: &mut [u8], room: &mut [u8]) -> Sums {
-    let first = print_census(b"before", census, memory, room);
+fn unite_census(out: &mut impl Write, census: Census, memory: &mut [u8], room: &mut [u8]) -> Sums {
+    let first = print_census(out, b"before", census, memory, room);
     let before = streams_in(census, memory);
     let called = uniting::unite(census, memory);
     let united = called.census;
-    let second = print_census(b"after", united, memory, room);
+    let second = print_census(out, b"after", united, memory, room);
     let after = streams_in(united, memory);
     Sums {
         before,
@@ -192,29 +189,32 @@ fn unite_census(census: Census, memory: &mut [u8], room: &mut [u8]) -> Sums {
     }
 }
 
-fn say(word: &[u8]) {
-    io::write_all(STDOUT_FILENO, word);
+fn say(out: &mut impl Write, word: &[u8]) -> io::Result<()> {
+    console::write_all(out, word)
 }
 
 // What was not read or not written whole has no sums, and says so.
-fn say_broken() {
-    io::write_all(
-        STDERR_FILENO,
+fn say_broken(errors: &mut impl Write) {
+    let _ = console::write_all(
+        errors,
         b"the input could not be read, or the output not written: the sums are left out\n",
     );
 }
 
-fn say_sums(censuses: u64, before: u64, after: u64) {
-    say(b"censuses ");
-    io::print_decimal(STDOUT_FILENO, censuses);
-    say(b" before ");
-    io::print_decimal(STDOUT_FILENO, before);
-    say(b" after ");
-    io::print_decimal(STDOUT_FILENO, after);
-    say(b"\n");
+fn say_sums(out: &mut impl Write, censuses: u64, before: u64, after: u64) -> io::Result<()> {
+    say(out, b"censuses ")?;
+    console::print_decimal(out, censuses)?;
+    say(out, b" before ")?;
+    console::print_decimal(out, before)?;
+    say(out, b" after ")?;
+    console::print_decimal(out, after)?;
+    say(out, b"\n")
 }
 
-fn main() {
+fn main(rt: HostRuntime) -> io::Result<()> {
+    let mut stdin = rt.stdin();
+    let mut stdout = rt.stdout();
+    let mut stderr = rt.stderr();
     let mut kept = slots();
     let mut printed = output();
     let memory: &mut [u8] = &mut kept;
@@ -224,15 +224,18 @@ fn main() {
     let mut before: u64 = 0;
     let mut after: u64 = 0;
     while censuses < MOST_CENSUSES {
-        let read = read_census(memory);
+        let Ok(read) = read_census(&mut stdin, memory) else {
+            say_broken(&mut stderr);
+            return Ok(());
+        };
         let found = read.found;
         let census = read.census;
         match found {
             Found::Kept => {
-                let sums = unite_census(census, memory, room);
+                let sums = unite_census(&mut stdout, census, memory, room);
                 if !sums.printed {
-                    say_broken();
-                    return;
+                    say_broken(&mut stderr);
+                    return Ok(());
                 }
                 before = plus(before, sums.before);
                 after = plus(after, sums.after);
@@ -242,15 +245,11 @@ fn main() {
                 cut = true;
                 break;
             }
-            Found::Broken => {
-                say_broken();
-                return;
-            }
         }
         censuses += 1;
     }
     if cut {
-        say(b"cut\n");
+        say(&mut stdout, b"cut\n")?;
     }
-    say_sums(censuses, before, after);
+    say_sums(&mut stdout, censuses, before, after)
 }
