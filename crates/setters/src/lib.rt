@@ -17,15 +17,6 @@ fn setter<R: Copy, V, F: FnOnce(R, V) -> R>(lent: &mut R, method: F, value: V)
     *lent = method(*lent, value);
 }
 
-// Whatever the record, the value and the setter: a caller that lends its record and returns it gives what the setter leaves of it.
-fn lender<R, V, F: FnOnce(&mut R, V)>(mut lent: R, setter: F, value: V) -> R
-    requires { (at : _) → at.now ≡ lent → F.pre setter at value }
-    ensures { (at : _) × (left : _) × (at.now ≡ lent) × F.post setter at value tt left × (left.now ≡ result) }
-{
-    setter(&mut lent, value);
-    lent
-}
-
 // `ClockSourceExt::set_value` of the Rust.
 pub fn set_source_value(ext: &mut ClockSourceExt, value: Place)
     ensures { ext.new ≡ with_source_value ext.old value }

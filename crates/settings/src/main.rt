@@ -14,46 +14,49 @@ use text::Place;
 // What the places of the records point into.
 const VALUE: [u8; 26] = *b"localmac=7C-E9-D3-1B-9A-AF";
 
-fn after_set_source_value(mut ext: ClockSourceExt, value: Place) -> ClockSourceExt
+// Whatever the record, the value and the setter: a caller that lends its record and returns it gives what the setter leaves of it.
+fn lender<R, V, F: FnOnce(&mut R, V)>(mut lent: R, setter: F, value: V) -> R
+    requires { (at : _) → at.now ≡ lent → F.pre setter at value }
+    ensures { (at : _) × (left : _) × (at.now ≡ lent) × F.post setter at value tt left × (left.now ≡ result) }
+{
+    setter(&mut lent, value);
+    lent
+}
+
+fn after_set_source_value(ext: ClockSourceExt, value: Place) -> ClockSourceExt
     ensures { result ≡ with_source_value ext value }
 {
-    setters::set_source_value(&mut ext, value);
-    ext
+    lender(ext, setters::set_source_value, value)
 }
 
-fn after_set_id(mut source: MediaClockSource, id: MediaClockId) -> MediaClockSource
+fn after_set_id(source: MediaClockSource, id: MediaClockId) -> MediaClockSource
     ensures { result ≡ with_id source id }
 {
-    setters::set_id(&mut source, id);
-    source
+    lender(source, setters::set_id, id)
 }
 
-fn after_set_src_prefix(mut id: MediaClockId, src: bool) -> MediaClockId
+fn after_set_src_prefix(id: MediaClockId, src: bool) -> MediaClockId
     ensures { result ≡ with_src id src }
 {
-    setters::set_src_prefix(&mut id, src);
-    id
+    lender(id, setters::set_src_prefix, src)
 }
 
-fn after_set_offset(mut direct: Direct, offset: u32) -> Direct
+fn after_set_offset(direct: Direct, offset: u32) -> Direct
     ensures { result ≡ with_offset direct offset }
 {
-    setters::set_offset(&mut direct, offset);
-    direct
+    lender(direct, setters::set_offset, offset)
 }
 
-fn after_set_rate(mut direct: Direct, rate: Rate) -> Direct
+fn after_set_rate(direct: Direct, rate: Rate) -> Direct
     ensures { result ≡ with_rate direct rate }
 {
-    setters::set_rate(&mut direct, rate);
-    direct
+    lender(direct, setters::set_rate, rate)
 }
 
-fn after_set_media_value(mut ext: MediaClockExt, value: Place) -> MediaClockExt
+fn after_set_media_value(ext: MediaClockExt, value: Place) -> MediaClockExt
     ensures { result ≡ with_media_value ext value }
 {
-    setters::set_media_value(&mut ext, value);
-    ext
+    lender(ext, setters::set_media_value, value)
 }
 
 fn say(out: &mut impl Write, word: &[u8]) -> io::Result<()> {
