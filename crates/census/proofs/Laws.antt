@@ -1,10 +1,9 @@
--- A fragment is cut where its LFs stand; no more is read than the part of the space that is lent, and no more than is left to read. Assumes nothing.
-use Prim.Native.Nat.{ℕ, ◌+◌, ◌-◌, ◌^◌, ◌≤◌, ◌<◌, min}
-use mathlib.Core.Path.{◌≡◌, sym}
+-- A fragment is cut where its LFs stand. Assumes nothing.
+use Prim.Native.Nat.{ℕ, ◌+◌, ◌-◌, ◌^◌, ◌≤◌, ◌<◌}
+use mathlib.Core.Path.{◌≡◌}
 use mathlib.Core.List.{List}
 use native.Mathlib.Omega.{arith}
-use lib.ListN.{length, take, drop, length-take, length-drop}
-use lib.Seq.{length-take-le}
+use lib.ListN.{length, drop, length-take, length-drop}
 use mir.Val.{Fits}
 use mir.Syntax.{w64}
 use Rattle.text.specs.Find.{before}
@@ -21,13 +20,3 @@ pub record Cutting (memory₀ line₀ text memory line : List ℕ) (i : ℕ) : T
 pub cut_fits : (text : List ℕ) (i r : ℕ) → i ≤ length text → length text < 2 ^ 64 → r ≡ before 10 (rest i text) → Fits w64 (i + r)
 cut_fits text i r h k e =
     record { fits = omega (arith, before_le 10 (rest i text), length-take (length text - i) (drop i text), length-drop i text) }
-
--- `main`
-module _ (left most : ℕ) (space : List ℕ) (e : most ≡ min left (length space)) where
-  pub lent : most ≡ length (take most space)
-  lent = sym (length-take-le most space (omega arith))
-
-  pub read_left : (r : ℕ) → r ≤ length (take most space) → r ≤ left
-  read_left r h = omega (arith, length-take most space)
-
-pub ruleset laws = (cut_fits, lent, read_left)

@@ -78,3 +78,84 @@ pub fn print_hex<W: Write>(to: &mut W, n: u64) -> io::Result<()>
 {
     write!(to, "{n:016x}")
 }
+
+#[cfg(test)]
+mod tests {
+    use super::*;
+
+    // Moves a byte a call, so many times, and then fails.
+    #[derive(Drop)]
+    struct Failing {
+        left: u8,
+    }
+
+    impl Failing {
+        fn step(&mut self) -> io::Result<()> {
+            if self.left == 0 {
+                return Err(io::Error::from(ErrorKind::Other));
+            }
+            self.left -= 1;
+            Ok(())
+        }
+    }
+
+    impl Read for Failing {
+        fn read(&mut self, buf: &mut [u8]) -> io::Result<usize> {
+            if buf.is_empty() {
+                return Ok(0);
+            }
+            self.step()?;
+            buf[0] = b'x';
+            Ok(1)
+        }
+    }
+
+    impl Write for Failing {
+        fn write(&mut self, buf: &[u8]) -> io::Result<usize> {
+            if buf.is_empty() {
+                return Ok(0);
+            }
+            self.step()?;
+            Ok(1)
+        }
+
+        fn flush(&mut self) -> io::Result<()> {
+            Ok(())
+        }
+    }
+
+    #[test]
+    fn a_buffer_is_read_full(rt: HostRuntime) {
+        let mut input: &[u8] = b"abcde";
+        let mut three = [0u8; 3];
+        assert!(rt; matches!(read_full(&mut input, &mut three), Ok(3)));
+        assert!(rt; three == *b"abc");
+        assert!(rt; matches!(read_full(&mut input, &mut three), Ok(2)));
+        assert!(rt; &three[..2] == b"de".as_slice());
+        assert!(rt; matches!(read_full(&mut input, &mut three), Ok(0)));
+    }
+
+    #[test]
+    fn what_fails_in_mid_stream_is_an_error(rt: HostRuntime) {
+        let mut three = [0u8; 3];
+        assert!(rt; read_full(&mut Failing { left: 2 }, &mut three).is_err());
+        assert!(rt; matches!(read_full(&mut Failing { left: 3 }, &mut three), Ok(3)));
+        assert!(rt; write_all(&mut Failing { left: 2 }, b"abc").is_err());
+        assert!(rt; write_all(&mut Failing { left: 3 }, b"abc").is_ok());
+        assert!(rt; print_decimal(&mut Failing { left: 1 }, 10).is_err());
+        assert!(rt; print_hex(&mut Failing { left: 15 }, 1).is_err());
+    }
+
+    #[test]
+    fn numbers_are_printed(rt: HostRuntime) -> io::Result<()> {
+        let mut out = Vec::new(rt.alloc());
+        write_all(&mut out, b"n ")?;
+        print_decimal(&mut out, 0)?;
+        write_all(&mut out, b" ")?;
+        print_decimal(&mut out, u64::MAX)?;
+        write_all(&mut out, b" ")?;
+        print_hex(&mut out, 0xac_de48_2345_6789)?;
+        assert!(rt; out.as_slice() == b"n 0 18446744073709551615 00acde4823456789".as_slice());
+        Ok(())
+    }
+}
