@@ -4,7 +4,7 @@
 ghost use Rattle.std.specs.Prelude.{◌≡◌, length};
 
 use clock::{ReferenceClockRead, Wrote};
-use lines::{Fed, Filling, Unfed};
+use lines::{Fed, Filling};
 use std::io;
 use std::io::Write;
 use text::Place;
@@ -32,22 +32,13 @@ fn show_same(out: &mut impl Write, same: bool) -> io::Result<()> {
     }
 }
 
-// The number that is owed for a refusal.
-fn refusal_number(why: Unfed) -> u8 {
-    match why {
-        Unfed::Closed => 28,
-        Unfed::OverLimit => 37,
-        Unfed::NoRoom => 24,
-    }
-}
-
 fn show_fed(out: &mut impl Write, room: &[u8], fed: Fed) -> io::Result<()> {
     let filling = fed.filling;
     match filling {
         Filling::Filled(len) => console::write_all(out, text::part(room, Place { start: 0, len })),
         Filling::Refused(why) => {
             console::write_all(out, b"refused with ")?;
-            console::print_decimal(out, refusal_number(why) as u64)?;
+            console::print_decimal(out, lines::refusal_number(why) as u64)?;
             show(out, b"")
         }
     }

@@ -189,17 +189,8 @@ fn hold_filled(to: &mut impl Write, filled: &[u8], output: &mut [u8], held: usiz
     }
 }
 
-// The number that is owed for a refusal.
-fn refusal_number(why: Unfed) -> u8 {
-    match why {
-        Unfed::Closed => 28,
-        Unfed::OverLimit => 37,
-        Unfed::NoRoom => 24,
-    }
-}
-
 fn hold_refusal(to: &mut impl Write, why: Unfed, output: &mut [u8], held: usize) -> Held {
-    let end = put_item(output, held, b"no ", refusal_number(why) as u64);
+    let end = put_item(output, held, b"no ", lines::refusal_number(why) as u64);
     end_line(to, output, end)
 }
 
