@@ -5,44 +5,31 @@
 // the first 4,294,967,295 frames are read.
 #![tactic(auto)]
 
-ghost use Rattle.std.specs.Prelude.{◌≤◌, length};
-
 use briefreply::ReplySize;
+use console::write_all;
+use frames::{Held, Stop};
 use questions::Level;
 use report::Kind;
 use std::io;
-use std::io::{Read, Write};
-use text::Place;
+use std::io::{ErrorKind, Read, Write};
 
 const MOST_FRAMES: u64 = 4294967295;
 
-// What is asked, of values that stand at the front of the room for each, so many bytes long.
+// What is asked, of the values that were read.
 #[derive(Clone, Copy)]
-enum Ask {
-    Reference(usize),
-    Media(usize),
-    Same { first: usize, second: usize },
-    Governing { session: usize, media: usize },
+enum Ask<'a> {
+    Reference(&'a [u8]),
+    Media(&'a [u8]),
+    Same(&'a [u8], &'a [u8]),
+    Governing { session: &'a [u8], media: &'a [u8] },
 }
 
-// The next frame; or none; or one that is cut.
-#[derive(Clone, Copy)]
-enum Frame {
-    Ask(Ask),
-    End,
-    Cut,
-}
-
-// What came of it: its value was accepted, or refused, or a question was answered; or nothing more is read, since the input ended, or was cut, or a read
-// or a write failed.
+// What came of it: its value was accepted, or refused, or a question was answered.
 #[derive(Clone, Copy)]
 enum Told {
     Ok,
     No,
     Asked,
-    End,
-    Cut,
-    Broken,
 }
 
 // A line at the front of the room: what it tells, and its length, which may be more than the room has.
@@ -52,97 +39,46 @@ struct Line {
     len: usize,
 }
 
-// Beside what came, how many bytes at the front of the room are still to be printed.
+// How many frames there were, and of each kind, each counted on its own; and whether the last one is cut.
 #[derive(Clone, Copy)]
-struct Step {
-    told: Told,
-    held: usize,
+struct Counts {
+    frames: u64,
+    ok: u64,
+    no: u64,
+    asked: u64,
+    cut: bool,
 }
 
-fn value_length(high: u8, low: u8) -> usize {
-    high as usize * 256 + low as usize
-}
-
-fn front(s: &[u8], len: usize) -> &[u8] {
-    text::part(s, Place { start: 0, len })
-}
-
-// A frame of which only so many bytes came.
-fn short_frame(got: usize) -> Frame {
-    if got == 0 {
-        return Frame::End;
-    }
-    Frame::Cut
-}
-
-// Whether so many bytes were read to the front of the room, which must hold them.
-fn is_read(input: &mut impl Read, room: &mut [u8], len: usize) -> io::Result<bool> {
-    if room.len() < len {
-        return Ok(false);
-    }
-    let got = console::read_full(input, &mut room[..len])?;
-    Ok(got == len)
-}
-
-// The second value of a question, behind a first one of so many bytes.
-fn read_second(
+fn read_ask<'a>(
     input: &mut impl Read,
-    letter: u8,
-    first: usize,
-    other: &mut [u8],
-) -> io::Result<Frame> {
-    let mut head = [0u8; 2];
-    if console::read_full(input, &mut head)? < 2 {
-        return Ok(short_frame(1));
-    }
-    let second = value_length(head[0], head[1]);
-    if !is_read(input, other, second)? {
-        return Ok(short_frame(1));
-    }
-    if letter == b's' {
-        return Ok(Frame::Ask(Ask::Same { first, second }));
-    }
-    Ok(Frame::Ask(Ask::Governing {
-        session: first,
-        media: second,
-    }))
-}
-
-fn read_frame(input: &mut impl Read, value: &mut [u8], other: &mut [u8]) -> io::Result<Frame> {
+    first: &'a mut [u8],
+    second: &'a mut [u8],
+) -> Result<Ask<'a>, Stop> {
     let mut head = [0u8; 3];
-    let got = console::read_full(input, &mut head)?;
-    if got < 3 {
-        return Ok(short_frame(got));
+    frames::read_head(input, &mut head)?;
+    let [letter, high, low] = head;
+    if !matches!(letter, b'r' | b'm' | b's' | b'g') {
+        return Err(Stop::Cut);
     }
-    let len = value_length(head[1], head[2]);
-    match head[0] {
-        b'r' | b'm' | b's' | b'g' => {
-            if !is_read(input, value, len)? {
-                return Ok(short_frame(3));
-            }
-        }
-        _ => return Ok(Frame::Cut),
-    }
-    match head[0] {
-        b'r' => Ok(Frame::Ask(Ask::Reference(len))),
-        b'm' => Ok(Frame::Ask(Ask::Media(len))),
-        letter => read_second(input, letter, len, other),
-    }
-}
-
-fn told_of(kind: Kind) -> Told {
-    match kind {
-        Kind::Accepted => Told::Ok,
-        Kind::Refused => Told::No,
-        Kind::Other => Told::No,
-        Kind::Long => Told::No,
-    }
+    let value = frames::read_bytes(input, first, u16::from_be_bytes([high, low]) as usize)?;
+    Ok(match letter {
+        b'r' => Ask::Reference(value),
+        b'm' => Ask::Media(value),
+        b's' => Ask::Same(value, frames::read_value(input, second)?),
+        _ => Ask::Governing {
+            session: value,
+            media: frames::read_value(input, second)?,
+        },
+    })
 }
 
 fn line_of_value(reply: ReplySize) -> Line {
-    let kind = reply.kind;
+    let told = match reply.kind {
+        Kind::Accepted => Told::Ok,
+        Kind::Refused | Kind::Other | Kind::Long => Told::No,
+    };
     Line {
-        told: told_of(kind),
+        told,
         len: reply.len,
     }
 }
@@ -165,193 +101,94 @@ fn put_level(room: &mut [u8], level: Level) -> usize {
 fn put_governing<'a>(room: &mut [u8], session: &'a [u8], media: &'a [u8]) -> usize {
     let part = questions::governing_clock(session, media);
     let found = questions::governing_place(session, media);
-    let level = found.level;
-    let at = put_level(room, level);
+    let at = put_level(room, found.level);
     let space = digits::put_decimal_u64(room, at, found.place.start as u64);
     let number = room::put_byte(room, space, b' ');
     let end = digits::put_decimal_u64(room, number, part.len() as u64);
     room::put_byte(room, end, b'\n')
 }
 
-fn line_of_answer(len: usize) -> Line {
-    Line {
-        told: Told::Asked,
-        len,
-    }
-}
-
-fn put_line<'a>(ask: Ask, value: &'a [u8], other: &'a [u8], room: &mut [u8]) -> Line {
+fn put_line(ask: Ask, room: &mut [u8]) -> Line {
     match ask {
-        Ask::Reference(len) => line_of_value(valueline::line_of_reference_clock(
-            front(value, len),
-            room,
-        )),
-        Ask::Media(len) => line_of_value(valueline::line_of_media_clock_source(
-            front(value, len),
-            room,
-        )),
-        Ask::Same { first, second } => line_of_answer(put_same(
-            room,
-            front(value, first),
-            front(other, second),
-        )),
-        Ask::Governing { session, media } => line_of_answer(put_governing(
-            room,
-            front(value, session),
-            front(other, media),
-        )),
+        Ask::Reference(value) => line_of_value(valueline::line_of_reference_clock(value, room)),
+        Ask::Media(value) => line_of_value(valueline::line_of_media_clock_source(value, room)),
+        Ask::Same(a, b) => Line {
+            told: Told::Asked,
+            len: put_same(room, a, b),
+        },
+        Ask::Governing { session, media } => Line {
+            told: Told::Asked,
+            len: put_governing(room, session, media),
+        },
     }
 }
 
-fn print_held(out: &mut impl Write, room: &[u8], held: usize) -> bool {
-    console::write_all(out, front(room, held)).is_ok()
-}
-
-// Holds the line of what is asked behind what is held. Where it does not fit, what is held is printed first.
-fn hold_line<'a>(
-    out: &mut impl Write,
-    ask: Ask,
-    value: &'a [u8],
-    other: &'a [u8],
-    room: &mut [u8],
-    held: usize,
-) -> Step
-    requires { held ≤ length room.old }
-    ensures { result.held ≤ length room.old }
-{
-    let line = put_line(ask, value, other, &mut room[held..]);
-    let told = line.told;
-    let left = room.len() - held;
-    if line.len <= left {
-        return Step {
-            told,
-            held: held + line.len,
-        };
-    }
-    if !print_held(out, room, held) {
-        return Step {
-            told: Told::Broken,
-            held: 0,
-        };
-    }
-    let line = put_line(ask, value, other, room);
-    let told = line.told;
-    if line.len <= room.len() {
-        return Step {
-            told,
-            held: line.len,
-        };
-    }
+// The line of what is asked is held. Where it does not fit behind what is held, that is printed first.
+fn answer(out: &mut impl Write, ask: Ask, room: &mut [u8], held: &mut Held) -> io::Result<Told> {
+    let line = put_line(ask, room);
     // never: there is room for the longest line
-    Step {
-        told: Told::Broken,
-        held: 0,
+    if room.len() < line.len {
+        return Err(io::Error::from(ErrorKind::WriteZero));
     }
+    held.print_for(out, line.len)?;
+    write_all(held, &room[..line.len])?;
+    Ok(line.told)
 }
 
-fn take_step(
-    input: &mut impl Read,
-    out: &mut impl Write,
-    value: &mut [u8],
-    other: &mut [u8],
-    room: &mut [u8],
-    held: usize,
-) -> Step
-    requires { held ≤ length room.old }
-    ensures { result.held ≤ length room.old }
-{
-    match read_frame(input, value, other) {
-        Ok(Frame::Ask(ask)) => hold_line(out, ask, value, other, room, held),
-        Ok(Frame::End) => Step {
-            told: Told::End,
-            held,
-        },
-        Ok(Frame::Cut) => Step {
-            told: Told::Cut,
-            held,
-        },
-        Err(_) => Step {
-            told: Told::Broken,
-            held,
-        },
+fn answer_all(input: &mut impl Read, out: &mut impl Write) -> io::Result<Counts> {
+    let mut first = console::large_buffer();
+    let mut second = console::large_buffer();
+    let mut room = console::large_buffer();
+    let mut held = Held::new();
+    let mut counts = Counts {
+        frames: 0,
+        ok: 0,
+        no: 0,
+        asked: 0,
+        cut: false,
+    };
+    for _ in 0..MOST_FRAMES {
+        let ask = match read_ask(input, &mut first, &mut second) {
+            Ok(ask) => ask,
+            Err(stop) => {
+                counts.cut = stop.is_cut()?;
+                break;
+            }
+        };
+        match answer(out, ask, &mut room, &mut held)? {
+            Told::Ok => counts.ok += 1,
+            Told::No => counts.no += 1,
+            Told::Asked => counts.asked += 1,
+        }
+        counts.frames += 1;
     }
+    held.print(out)?;
+    Ok(counts)
 }
 
-fn say(out: &mut impl Write, word: &[u8]) -> io::Result<()> {
-    console::write_all(out, word)
-}
-
-// What was not read or not written whole has no counts, and says so.
-fn say_broken(errors: &mut impl Write) {
-    let _ = console::write_all(
-        errors,
-        b"the input could not be read, or the output not written: the counts are left out\n",
-    );
-}
-
-// Each was counted on its own.
-fn say_counts(out: &mut impl Write, frames: u64, ok: u64, no: u64, asked: u64) -> io::Result<()> {
-    say(out, b"frames ")?;
-    console::print_decimal(out, frames)?;
-    say(out, b" ok ")?;
-    console::print_decimal(out, ok)?;
-    say(out, b" no ")?;
-    console::print_decimal(out, no)?;
-    say(out, b" asked ")?;
-    console::print_decimal(out, asked)?;
-    say(out, b"\n")
+fn say_counts(out: &mut impl Write, counts: Counts) -> io::Result<()> {
+    if counts.cut {
+        write_all(out, b"cut\n")?;
+    }
+    let Counts {
+        frames,
+        ok,
+        no,
+        asked,
+        ..
+    } = counts;
+    writeln!(out, "frames {frames} ok {ok} no {no} asked {asked}")
 }
 
 fn main(rt: HostRuntime) -> io::Result<()> {
-    let mut stdin = rt.stdin();
     let mut stdout = rt.stdout();
-    let mut stderr = rt.stderr();
-    let mut values = console::large_buffer();
-    let mut others = console::large_buffer();
-    let mut lines = console::large_buffer();
-    let value: &mut [u8] = &mut values;
-    let other: &mut [u8] = &mut others;
-    let room: &mut [u8] = &mut lines;
-    let mut held: usize = 0;
-    let mut cut = false;
-    let mut frames: u64 = 0;
-    let mut ok: u64 = 0;
-    let mut no: u64 = 0;
-    let mut asked: u64 = 0;
-    while frames < MOST_FRAMES {
-        let step = take_step(&mut stdin, &mut stdout, value, other, room, held);
-        let told = step.told;
-        held = step.held;
-        match told {
-            Told::Ok => {
-                frames += 1;
-                ok += 1;
-            }
-            Told::No => {
-                frames += 1;
-                no += 1;
-            }
-            Told::Asked => {
-                frames += 1;
-                asked += 1;
-            }
-            Told::End => break,
-            Told::Cut => {
-                cut = true;
-                break;
-            }
-            Told::Broken => {
-                say_broken(&mut stderr);
-                return Ok(());
-            }
-        }
-    }
-    if !print_held(&mut stdout, room, held) {
-        say_broken(&mut stderr);
+    let Ok(counts) = answer_all(&mut rt.stdin(), &mut stdout) else {
+        // what was not read or not written whole has no counts, and says so
+        let _ = write_all(
+            &mut rt.stderr(),
+            b"the input could not be read, or the output not written: the counts are left out\n",
+        );
         return Ok(());
-    }
-    if cut {
-        say(&mut stdout, b"cut\n")?;
-    }
-    say_counts(&mut stdout, frames, ok, no, asked)
+    };
+    say_counts(&mut stdout, counts)
 }

@@ -1,4 +1,5 @@
 -- One law for each way out of the crate's functions. Assumes nothing.
+use Rattle.std.specs.Prelude.{Result, Ok, Err}
 use Prim.Native.Nat.{ℕ, ◌≤◌, ◌<◌}
 use mathlib.Core.Path.{◌≡◌, refl, sym, ap, ◌∙◌}
 use mathlib.Core.List.{List}
@@ -7,8 +8,6 @@ use lib.ListN.{length}
 use borrow.Author.Tests.{lt-ltb, le-ltb}
 use Rattle.clock.specs.declared.Refusal.{Refusal}
 use Rattle.clock.specs.declared.ReferenceClock.{ReferenceClock}
-use Rattle.clock.specs.declared.ReferenceClockRead.{ReferenceClockRead}
-use Rattle.clock.specs.declared.ReferenceClockRead.TheVariants as read
 use Rattle.meaning.specs.ReferenceClock.{read_reference_clock}
 use Rattle.meaning.specs.Meaning.{ref_meaning}
 use Rattle.streams.specs.Limits.{least_memory}
@@ -18,8 +17,6 @@ use Rattle.slots.specs.Find.{SlotOf}
 use Rattle.slots.proofs.Slots.{slot_settled}
 use Rattle.counts.specs.State.{used_in}
 use Rattle.counts.specs.declared.Census.{Census}
-use Rattle.asking.specs.declared.Asked.{Asked}
-use Rattle.asking.specs.declared.Asked.TheVariants.{Number, Refused}
 use Rattle.asking.specs.Asking.{streams_in, streams_read, asked, AsksStreams}
 use Rattle.asking.specs.Private.Clock.{AsksClock}
 
@@ -38,15 +35,15 @@ module _ (c : Census) (m v : List ℕ) (k : ReferenceClock) (u : ℕ) (eu : u �
 
 -- `streams_of`
 module _ (c : Census) (m v : List ℕ) where
-  pub ask_short : length m < least_memory → AsksStreams c m v (Refused NoMemory)
+  pub ask_short : length m < least_memory → AsksStreams c m v (Err NoMemory)
   ask_short h = record { is = λ i s. simp (lt-ltb (length m) least_memory h) }
 
-  module _ (h : least_memory ≤ length m) (x : ReferenceClockRead) (ex : x ≡ read_reference_clock v) where
-    pub ask_refused : (q : Refusal) → x ≡ read.Refused q → AsksStreams c m v (Number 0)
+  module _ (h : least_memory ≤ length m) (x : Result ReferenceClock Refusal) (ex : x ≡ read_reference_clock v) where
+    pub ask_refused : (q : Refusal) → x ≡ Err q → AsksStreams c m v (Ok 0)
     ask_refused q e = record { is = λ i s. simp (le-ltb (length m) least_memory h, ← ex, e) }
 
-    pub ask_accepted : (k : ReferenceClock) → x ≡ read.Accepted k → (n : ℕ) → AsksClock c m v k n → AsksStreams c m v (Number n)
-    ask_accepted k e n a = record { is = λ i s. simp (le-ltb (length m) least_memory h, ← ex, e) (ap Number (a.is i (s.named k (sym ex ∙ e)))) }
+    pub ask_accepted : (k : ReferenceClock) → x ≡ Ok k → (n : ℕ) → AsksClock c m v k n → AsksStreams c m v (Ok n)
+    ask_accepted k e n a = record { is = λ i s. simp (le-ltb (length m) least_memory h, ← ex, e) (ap Ok (a.is i (s.named k (sym ex ∙ e)))) }
 
 -- `clocks`, `clock_sum`
 pub clocks_are : (c : Census) (m : List ℕ) (u r : ℕ) → u ≡ used_in c → r ≡ taken_slots m u → r ≡ taken_slots m (used_in c)

@@ -7,16 +7,9 @@ ghost use Rattle.counts.specs.State.{used_in};
 ghost use Rattle.asking.specs.Asking.{AsksStreams};
 ghost use Rattle.asking.specs.Private.Clock.{AsksClock};
 
-use clock::{ReferenceClock, ReferenceClockRead};
+use clock::ReferenceClock;
 use counts::Census;
 use streams::{LEAST_MEMORY, Uncounted};
-
-// The answer to a question, or why there is none.
-#[derive(Clone, Copy)]
-pub enum Asked {
-    Number(u32),
-    Refused(Uncounted),
-}
 
 // How many streams a clock has.
 fn streams_of_clock(census: Census, memory: &[u8], value: &[u8], clock: ReferenceClock) -> u32
@@ -31,17 +24,17 @@ fn streams_of_clock(census: Census, memory: &[u8], value: &[u8], clock: Referenc
 }
 
 // How many streams the clock of a value has: none where the value is refused.
-pub fn streams_of(census: Census, memory: &[u8], value: &[u8]) -> Asked
+pub fn streams_of(census: Census, memory: &[u8], value: &[u8]) -> Result<u32, Uncounted>
     ensures { AsksStreams census memory.now value.now result }
 {
     if memory.len() < LEAST_MEMORY {
-        return Asked::Refused(Uncounted::NoMemory);
+        return Err(Uncounted::NoMemory);
     }
     let read = refclk::read_reference_clock(value);
-    let ReferenceClockRead::Accepted(clock) = read else {
-        return Asked::Number(0);
+    let Ok(clock) = read else {
+        return Ok(0);
     };
-    Asked::Number(streams_of_clock(census, memory, value, clock))
+    Ok(streams_of_clock(census, memory, value, clock))
 }
 
 // How many clocks have streams.

@@ -50,15 +50,16 @@ pub number_put : (n b at next last : ℕ) (l m r : List ℕ) → Put 20 l at (de
 number_put n b at next last l m r p q = put_then p q
 
 -- `put_refusal`
-pub refusal_put : (x : Refusal) (l m n o r : List ℕ) (a b c d : ℕ)
+pub refusal_put : (x : Refusal) (k : ℕ) → k ≡ x.number → (l m n o r : List ℕ) (a b c d : ℕ)
     → Put 3 l 0 (word "no ") a m
-    → Put 21 m a (decimal x.number ++ 32 ∷ []) b n
+    → Put 21 m a (decimal k ++ 32 ∷ []) b n
     → Put 21 n b (decimal x.place.start ++ 32 ∷ []) c o
     → Put 21 o c (decimal x.place.len ++ 10 ∷ []) d r
     → Put 66 l 0 (no_reply x).says d r
 unfolding no_reply
-refusal_put x l m n o r a b c d p q s t =
-    simp append_assoc (simp append_assoc at (put_then (put_then (put_then p q) s) t))
+refusal_put x k e l m n o r a b c d p q s t =
+    let first : Put 21 m a (decimal x.number ++ 32 ∷ []) b n = rw e at q in
+    simp append_assoc (simp append_assoc at (put_then (put_then (put_then p first) s) t))
 
 -- `reply_to_refusal`: the text stands in an array of 66 bytes
 module _ (r : Refusal) (l m : List ℕ) (n : ℕ) (e : length l ≡ 66) (p : Put 66 l 0 (no_reply r).says n m) where

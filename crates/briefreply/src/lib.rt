@@ -17,7 +17,7 @@ use report::Kind;
 pub const MOST_LINE_BYTES: usize = 4096;
 
 // A line's kind, and the length of what is printed for it: it was printed where the room has so many bytes.
-#[derive(Clone, Copy)]
+#[derive(Debug, Clone, Copy, PartialEq, Eq)]
 pub struct ReplySize {
     pub kind: Kind,
     pub len: usize,
@@ -28,10 +28,9 @@ fn say(kind: Kind, text: &[u8], room: &mut [u8]) -> ReplySize
     ensures { Gives (reply_of kind text.now) room.old result room.new }
 {
     let len = text.len();
-    if room.len() < len {
-        return ReplySize { kind, len };
+    if len <= room.len() {
+        room::put_bytes(room, 0, text);
     }
-    room::put_bytes(room, 0, text);
     ReplySize { kind, len }
 }
 
@@ -49,7 +48,7 @@ pub fn put_refusal(room: &mut [u8], refusal: Refusal) -> usize
 {
     let place = refusal.place;
     let number = room::put_bytes(room, 0, b"no ");
-    let start = put_number(room, number, refusal.number as u64, b' ');
+    let start = put_number(room, number, u64::from(refusal.number), b' ');
     let len = put_number(room, start, place.start as u64, b' ');
     put_number(room, len, place.len as u64, b'\n')
 }
@@ -63,16 +62,13 @@ pub fn reply_to_refusal(refusal: Refusal, room: &mut [u8]) -> ReplySize
 }
 
 // Whether a line is seen at once to be no clock line and not long: it does not begin as the clock lines do. A CR at its end changes nothing.
+#[tactic(auto, unfolding(crate::specs::Plain::plain))]
 pub fn is_plain(line: &[u8]) -> bool
     ensures { result ≡ plain line.now }
 {
-    if MOST_LINE_BYTES < line.len() {
-        return false;
-    }
-    if text::has_prefix(line, b"a=t") {
-        return false;
-    }
-    !text::has_prefix(line, b"a=m")
+    line.len() <= MOST_LINE_BYTES
+        && !text::has_prefix(line, b"a=t")
+        && !text::has_prefix(line, b"a=m")
 }
 
 // The answer to a line that is neither a clock line nor long.

@@ -1,9 +1,9 @@
-// The records of ts-refclk, and what both attributes share, under the names of the Rust module clock_signalling. A place stands for each text, and
-// a case of its own for what may be absent. The constructors and setters are in the module.
+// The records of ts-refclk, and what both attributes share, under the names of the Rust module clock_signalling. A place stands for each text.
+// The constructors and setters are in the module.
 #![tactic(auto)]
 
 ghost use Rattle.std.specs.Prelude.{◌≡◌};
-ghost use Rattle.clock.specs.Refusal.{refusal};
+ghost use Rattle.clock.specs.Refusal.{refusal, unmade_number};
 
 use text::Place;
 
@@ -27,6 +27,21 @@ impl Refusal {
     }
 }
 
+// Why a constructor makes no record: the domain number that it is given is over 127.
+#[derive(Clone, Copy, Debug, PartialEq, Eq)]
+pub enum Unmade {
+    DomainOver127,
+}
+
+// The number of a refusal.
+pub fn refusal_number(why: Unmade) -> u8
+    ensures { result ≡ unmade_number why }
+{
+    match why {
+        Unmade::DomainOver127 => 10,
+    }
+}
+
 // What a ts-refclk value names.
 #[derive(Clone, Copy)]
 pub enum ReferenceClock {
@@ -40,13 +55,6 @@ pub enum ReferenceClock {
     Ext(ClockSourceExt),
 }
 
-// What comes of a domain number: the record, or the number of the refusal.
-#[derive(Clone, Copy)]
-pub enum TriedReferenceClock {
-    Made(ReferenceClock),
-    Refused(u8),
-}
-
 #[derive(Clone, Copy)]
 pub struct Ntp {
     pub server: NtpServerAddr,
@@ -54,26 +62,14 @@ pub struct Ntp {
 
 #[derive(Clone, Copy)]
 pub enum NtpServerAddr {
-    HostPort { hostname: Place, port: OptPort },
+    HostPort { hostname: Place, port: Option<u16> },
     Traceable,
-}
-
-#[derive(Clone, Copy)]
-pub enum OptPort {
-    NoPort,
-    SomePort(u16),
 }
 
 #[derive(Clone, Copy)]
 pub struct Ptp {
     pub version: PtpVersion,
     pub server: PtpServer,
-}
-
-#[derive(Clone, Copy)]
-pub enum TriedPtp {
-    Made(Ptp),
-    Refused(u8),
 }
 
 #[derive(Clone, Copy)]
@@ -86,14 +82,11 @@ pub enum PtpVersion {
 
 #[derive(Clone, Copy)]
 pub enum PtpServer {
-    GmidDomain { gmid: Eui64, domain: OptDomain },
+    GmidDomain {
+        gmid: Eui64,
+        domain: Option<PtpDomain>,
+    },
     Traceable,
-}
-
-#[derive(Clone, Copy)]
-pub enum TriedPtpServer {
-    Made(PtpServer),
-    Refused(u8),
 }
 
 // The eight bytes as one number, the first byte highest.
@@ -110,18 +103,6 @@ pub enum PtpDomain {
 }
 
 #[derive(Clone, Copy)]
-pub enum OptDomain {
-    NoDomain,
-    SomeDomain(PtpDomain),
-}
-
-#[derive(Clone, Copy)]
-pub enum TriedPtpDomain {
-    Made(PtpDomain),
-    Refused(u8),
-}
-
-#[derive(Clone, Copy)]
 pub enum PrivateSource {
     Standard,
     Traceable,
@@ -130,27 +111,7 @@ pub enum PrivateSource {
 #[derive(Clone, Copy)]
 pub struct ClockSourceExt {
     pub name: Place,
-    pub value: OptValue,
-}
-
-#[derive(Clone, Copy)]
-pub enum OptValue {
-    NoValue,
-    SomeValue(Place),
-}
-
-// What reading a ts-refclk value answers.
-#[derive(Clone, Copy)]
-pub enum ReferenceClockRead {
-    Accepted(ReferenceClock),
-    Refused(Refusal),
-}
-
-// What writing answers: the length of the text, or why nothing was written.
-#[derive(Clone, Copy)]
-pub enum Wrote {
-    Length(usize),
-    Refused(WriteRefusal),
+    pub value: Option<Place>,
 }
 
 // The value is too long, a place reaches outside it, or the room is shorter than the text, which needs so many bytes.

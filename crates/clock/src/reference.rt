@@ -1,27 +1,27 @@
-// Constructors and setters of the records of ts-refclk, in the Rust module's order. A `From` there is a function here, named by what it takes.
+// Constructors and setters of the records of ts-refclk, in the Rust module's order.
 ghost use Rattle.std.specs.Prelude.{◌≡◌};
 ghost use Rattle.clock.specs.Records.{ntp, ptp, eui64, clock_source_ext};
 ghost use Rattle.clock.specs.Domain.{version_for, tried_ptp_domain, tried_ptp_server, tried_ptp, tried_reference_clock};
 ghost use Rattle.clock.specs.Setters.{with_source_value};
+ghost use Rattle.clock.specs.declared.ReferenceClock.TheVariants as clock;
 
 use crate::{
-    ClockSourceExt, Eui64, Ntp, NtpServerAddr, OptDomain, OptPort, OptValue, PrivateSource, Ptp,
-    PtpDomain, PtpServer, PtpVersion, ReferenceClock, TriedPtp, TriedPtpDomain, TriedPtpServer,
-    TriedReferenceClock,
+    ClockSourceExt, Eui64, Ntp, NtpServerAddr, PrivateSource, Ptp, PtpDomain, PtpServer,
+    PtpVersion, ReferenceClock, Unmade,
 };
 use text::Place;
 
 impl ReferenceClock {
     // An NTP server by its host, without a port.
     pub fn from_ntp_hostname(hostname: Place) -> ReferenceClock
-        ensures { result ≡ ReferenceClock.Ntp (ntp (NtpServerAddr.HostPort hostname OptPort.NoPort)) }
+        ensures { result ≡ ReferenceClock.Ntp (ntp (NtpServerAddr.HostPort hostname None)) }
     {
         ReferenceClock::Ntp(Ntp::from_hostname(hostname))
     }
 
     // An NTP server by its host, with a port.
     pub fn from_ntp_hostname_with_port(hostname: Place, port: u16) -> ReferenceClock
-        ensures { result ≡ ReferenceClock.Ntp (ntp (NtpServerAddr.HostPort hostname (OptPort.SomePort port))) }
+        ensures { result ≡ ReferenceClock.Ntp (ntp (NtpServerAddr.HostPort hostname (Some port))) }
     {
         ReferenceClock::Ntp(Ntp::from_hostname_with_port(hostname, port))
     }
@@ -35,14 +35,14 @@ impl ReferenceClock {
 
     // PTP of this version and this GMID, without a domain.
     pub fn from_ptp_gmid(version: PtpVersion, gmid: Eui64) -> ReferenceClock
-        ensures { result ≡ ReferenceClock.Ptp (ptp version (PtpServer.GmidDomain gmid OptDomain.NoDomain)) }
+        ensures { result ≡ ReferenceClock.Ptp (ptp version (PtpServer.GmidDomain gmid None)) }
     {
         ReferenceClock::Ptp(Ptp::from_gmid(version, gmid))
     }
 
     // PTP of this GMID and domain: the domain's kind settles the version.
     pub fn from_ptp_gmid_with_domain(gmid: Eui64, domain: PtpDomain) -> ReferenceClock
-        ensures { result ≡ ReferenceClock.Ptp (ptp (version_for domain) (PtpServer.GmidDomain gmid (OptDomain.SomeDomain domain))) }
+        ensures { result ≡ ReferenceClock.Ptp (ptp (version_for domain) (PtpServer.GmidDomain gmid (Some domain))) }
     {
         ReferenceClock::Ptp(Ptp::from_gmid_with_domain(gmid, domain))
     }
@@ -50,21 +50,21 @@ impl ReferenceClock {
     // PTP of this GMID and a domain by name, so of IEEE 1588-2002; the name may have any length.
     pub fn from_ptp_gmid_with_domain_name(gmid: Eui64, name: Place) -> ReferenceClock
         ensures { result ≡ ReferenceClock.Ptp (ptp PtpVersion.Ieee1588_2002
-            (PtpServer.GmidDomain gmid (OptDomain.SomeDomain (PtpDomain.DomainName name)))) }
+            (PtpServer.GmidDomain gmid (Some (PtpDomain.DomainName name)))) }
     {
         ReferenceClock::Ptp(Ptp::from_gmid_with_domain_name(gmid, name))
     }
 
     // PTP of this GMID and a domain by number, so of IEEE 1588-2008; a number over 127 is refused.
-    pub fn try_from_ptp_gmid_with_domain_number(gmid: Eui64, number: u8) -> TriedReferenceClock
+    #[tactic(auto, unfolding(crate::specs::Domain::tried))]
+    pub fn try_from_ptp_gmid_with_domain_number(
+        gmid: Eui64,
+        number: u8,
+    ) -> Result<ReferenceClock, Unmade>
         ensures { result ≡ tried_reference_clock gmid number }
     {
-        match PtpDomain::try_from_number(number) {
-            TriedPtpDomain::Made(domain) => {
-                TriedReferenceClock::Made(ReferenceClock::from_ptp_gmid_with_domain(gmid, domain))
-            }
-            TriedPtpDomain::Refused(refusal) => TriedReferenceClock::Refused(refusal),
-        }
+        let domain = PtpDomain::try_from_number(number)?;
+        Ok(ReferenceClock::from_ptp_gmid_with_domain(gmid, domain))
     }
 
     // PTP of this version, traceable: no GMID and no domain.
@@ -78,63 +78,75 @@ impl ReferenceClock {
     pub fn new_private_source_standard() -> ReferenceClock
         ensures { result ≡ ReferenceClock.Private PrivateSource.Standard }
     {
-        ReferenceClock::from_private_source(PrivateSource::Standard)
+        ReferenceClock::from(PrivateSource::Standard)
     }
 
     // A private clock that is traceable.
     pub fn new_private_source_traceable() -> ReferenceClock
         ensures { result ≡ ReferenceClock.Private PrivateSource.Traceable }
     {
-        ReferenceClock::from_private_source(PrivateSource::Traceable)
+        ReferenceClock::from(PrivateSource::Traceable)
     }
 
     // An extension of this name, without a value.
     pub fn from_clock_source_ext_name(name: Place) -> ReferenceClock
-        ensures { result ≡ ReferenceClock.Ext (clock_source_ext name OptValue.NoValue) }
+        ensures { result ≡ ReferenceClock.Ext (clock_source_ext name None) }
     {
         ReferenceClock::Ext(ClockSourceExt::new(name))
     }
 
     // An extension of this name with a value, which may be empty.
     pub fn from_clock_source_ext_name_with_value(name: Place, value: Place) -> ReferenceClock
-        ensures { result ≡ ReferenceClock.Ext (clock_source_ext name (OptValue.SomeValue value)) }
+        ensures { result ≡ ReferenceClock.Ext (clock_source_ext name (Some value)) }
     {
         ReferenceClock::Ext(ClockSourceExt::with_value(name, value))
     }
+}
 
-    pub fn from_ntp(ntp: Ntp) -> ReferenceClock
-        ensures { result ≡ ReferenceClock.Ntp ntp }
-    {
+impl From<Ntp> for ReferenceClock {
+    ghost from_gives = { λ n c. c ≡ clock.Ntp n };
+
+    fn from(ntp: Ntp) -> ReferenceClock {
         ReferenceClock::Ntp(ntp)
     }
+}
 
-    pub fn from_ntp_server_addr(server: NtpServerAddr) -> ReferenceClock
-        ensures { result ≡ ReferenceClock.Ntp (ntp server) }
-    {
-        ReferenceClock::Ntp(Ntp::from_ntp_server_addr(server))
+impl From<NtpServerAddr> for ReferenceClock {
+    ghost from_gives = { λ s c. c ≡ clock.Ntp (ntp s) };
+
+    fn from(server: NtpServerAddr) -> ReferenceClock {
+        ReferenceClock::Ntp(Ntp::from(server))
     }
+}
 
-    pub fn from_ptp(ptp: Ptp) -> ReferenceClock
-        ensures { result ≡ ReferenceClock.Ptp ptp }
-    {
+impl From<Ptp> for ReferenceClock {
+    ghost from_gives = { λ p c. c ≡ clock.Ptp p };
+
+    fn from(ptp: Ptp) -> ReferenceClock {
         ReferenceClock::Ptp(ptp)
     }
+}
 
-    pub fn from_ptp_version_and_server(version: PtpVersion, server: PtpServer) -> ReferenceClock
-        ensures { result ≡ ReferenceClock.Ptp (ptp version server) }
-    {
+impl From<(PtpVersion, PtpServer)> for ReferenceClock {
+    ghost from_gives = { λ p c. c ≡ clock.Ptp (ptp p.0 p.1) };
+
+    fn from((version, server): (PtpVersion, PtpServer)) -> ReferenceClock {
         ReferenceClock::Ptp(Ptp::new(version, server))
     }
+}
 
-    pub fn from_private_source(source: PrivateSource) -> ReferenceClock
-        ensures { result ≡ ReferenceClock.Private source }
-    {
+impl From<PrivateSource> for ReferenceClock {
+    ghost from_gives = { λ p c. c ≡ clock.Private p };
+
+    fn from(source: PrivateSource) -> ReferenceClock {
         ReferenceClock::Private(source)
     }
+}
 
-    pub fn from_clock_source_ext(ext: ClockSourceExt) -> ReferenceClock
-        ensures { result ≡ ReferenceClock.Ext ext }
-    {
+impl From<ClockSourceExt> for ReferenceClock {
+    ghost from_gives = { λ e c. c ≡ clock.Ext e };
+
+    fn from(ext: ClockSourceExt) -> ReferenceClock {
         ReferenceClock::Ext(ext)
     }
 }
@@ -142,21 +154,21 @@ impl ReferenceClock {
 impl Ntp {
     // A host without a port.
     pub fn from_hostname(hostname: Place) -> Ntp
-        ensures { result ≡ ntp (NtpServerAddr.HostPort hostname OptPort.NoPort) }
+        ensures { result ≡ ntp (NtpServerAddr.HostPort hostname None) }
     {
-        Ntp::from_ntp_server_addr(NtpServerAddr::HostPort {
+        Ntp::from(NtpServerAddr::HostPort {
             hostname,
-            port: OptPort::NoPort,
+            port: None,
         })
     }
 
     // A host with a port.
     pub fn from_hostname_with_port(hostname: Place, port: u16) -> Ntp
-        ensures { result ≡ ntp (NtpServerAddr.HostPort hostname (OptPort.SomePort port)) }
+        ensures { result ≡ ntp (NtpServerAddr.HostPort hostname (Some port)) }
     {
-        Ntp::from_ntp_server_addr(NtpServerAddr::HostPort {
+        Ntp::from(NtpServerAddr::HostPort {
             hostname,
-            port: OptPort::SomePort(port),
+            port: Some(port),
         })
     }
 
@@ -164,12 +176,14 @@ impl Ntp {
     pub fn new_traceable() -> Ntp
         ensures { result ≡ ntp NtpServerAddr.Traceable }
     {
-        Ntp::from_ntp_server_addr(NtpServerAddr::Traceable)
+        Ntp::from(NtpServerAddr::Traceable)
     }
+}
 
-    pub fn from_ntp_server_addr(server: NtpServerAddr) -> Ntp
-        ensures { result ≡ ntp server }
-    {
+impl From<NtpServerAddr> for Ntp {
+    ghost from_gives = { λ s n. n ≡ ntp s };
+
+    fn from(server: NtpServerAddr) -> Ntp {
         Ntp { server }
     }
 }
@@ -177,21 +191,21 @@ impl Ntp {
 impl NtpServerAddr {
     // A host without a port.
     pub fn from_hostname(hostname: Place) -> NtpServerAddr
-        ensures { result ≡ NtpServerAddr.HostPort hostname OptPort.NoPort }
+        ensures { result ≡ NtpServerAddr.HostPort hostname None }
     {
         NtpServerAddr::HostPort {
             hostname,
-            port: OptPort::NoPort,
+            port: None,
         }
     }
 
     // A host with a port.
     pub fn from_hostname_with_port(hostname: Place, port: u16) -> NtpServerAddr
-        ensures { result ≡ NtpServerAddr.HostPort hostname (OptPort.SomePort port) }
+        ensures { result ≡ NtpServerAddr.HostPort hostname (Some port) }
     {
         NtpServerAddr::HostPort {
             hostname,
-            port: OptPort::SomePort(port),
+            port: Some(port),
         }
     }
 
@@ -213,24 +227,18 @@ impl Ptp {
 
     // A GMID without a domain.
     pub fn from_gmid(version: PtpVersion, gmid: Eui64) -> Ptp
-        ensures { result ≡ ptp version (PtpServer.GmidDomain gmid OptDomain.NoDomain) }
+        ensures { result ≡ ptp version (PtpServer.GmidDomain gmid None) }
     {
-        Ptp::new(
-            version,
-            PtpServer::GmidDomain {
-                gmid,
-                domain: OptDomain::NoDomain,
-            },
-        )
+        Ptp::new(version, PtpServer::GmidDomain { gmid, domain: None })
     }
 
     // The domain's kind settles the version: a name 1588-2002, a number 1588-2008.
     pub fn from_gmid_with_domain(gmid: Eui64, domain: PtpDomain) -> Ptp
-        ensures { result ≡ ptp (version_for domain) (PtpServer.GmidDomain gmid (OptDomain.SomeDomain domain)) }
+        ensures { result ≡ ptp (version_for domain) (PtpServer.GmidDomain gmid (Some domain)) }
     {
         let server = PtpServer::GmidDomain {
             gmid,
-            domain: OptDomain::SomeDomain(domain),
+            domain: Some(domain),
         };
         match domain {
             PtpDomain::DomainName { name: _ } => Ptp::new(PtpVersion::Ieee1588_2002, server),
@@ -240,21 +248,18 @@ impl Ptp {
 
     // A domain by name, so of IEEE 1588-2002.
     pub fn from_gmid_with_domain_name(gmid: Eui64, name: Place) -> Ptp
-        ensures { result ≡ ptp PtpVersion.Ieee1588_2002 (PtpServer.GmidDomain gmid (OptDomain.SomeDomain (PtpDomain.DomainName name))) }
+        ensures { result ≡ ptp PtpVersion.Ieee1588_2002 (PtpServer.GmidDomain gmid (Some (PtpDomain.DomainName name))) }
     {
         Ptp::from_gmid_with_domain(gmid, PtpDomain::DomainName { name })
     }
 
     // A domain by number, so of IEEE 1588-2008; a number over 127 is refused.
-    pub fn try_from_gmid_with_domain_number(gmid: Eui64, number: u8) -> TriedPtp
+    #[tactic(auto, unfolding(crate::specs::Domain::tried))]
+    pub fn try_from_gmid_with_domain_number(gmid: Eui64, number: u8) -> Result<Ptp, Unmade>
         ensures { result ≡ tried_ptp gmid number }
     {
-        match PtpDomain::try_from_number(number) {
-            TriedPtpDomain::Made(domain) => TriedPtp::Made(Ptp::from_gmid_with_domain(
-                gmid, domain,
-            )),
-            TriedPtpDomain::Refused(refusal) => TriedPtp::Refused(refusal),
-        }
+        let domain = PtpDomain::try_from_number(number)?;
+        Ok(Ptp::from_gmid_with_domain(gmid, domain))
     }
 
     // Traceable: no GMID and no domain.
@@ -263,10 +268,12 @@ impl Ptp {
     {
         Ptp::new(version, PtpServer::Traceable)
     }
+}
 
-    pub fn from_version_and_server(version: PtpVersion, server: PtpServer) -> Ptp
-        ensures { result ≡ ptp version server }
-    {
+impl From<(PtpVersion, PtpServer)> for Ptp {
+    ghost from_gives = { λ p q. q ≡ ptp p.0 p.1 };
+
+    fn from((version, server): (PtpVersion, PtpServer)) -> Ptp {
         Ptp::new(version, server)
     }
 }
@@ -274,44 +281,41 @@ impl Ptp {
 impl PtpServer {
     // A GMID without a domain.
     pub fn from_gmid(gmid: Eui64) -> PtpServer
-        ensures { result ≡ PtpServer.GmidDomain gmid OptDomain.NoDomain }
+        ensures { result ≡ PtpServer.GmidDomain gmid None }
     {
-        PtpServer::GmidDomain {
-            gmid,
-            domain: OptDomain::NoDomain,
-        }
+        PtpServer::GmidDomain { gmid, domain: None }
     }
 
     // A GMID and a domain of either kind.
     pub fn from_gmid_with_domain(gmid: Eui64, domain: PtpDomain) -> PtpServer
-        ensures { result ≡ PtpServer.GmidDomain gmid (OptDomain.SomeDomain domain) }
+        ensures { result ≡ PtpServer.GmidDomain gmid (Some domain) }
     {
         PtpServer::GmidDomain {
             gmid,
-            domain: OptDomain::SomeDomain(domain),
+            domain: Some(domain),
         }
     }
 
     // A domain by name; a server has no version.
     pub fn from_gmid_with_domain_name(gmid: Eui64, name: Place) -> PtpServer
-        ensures { result ≡ PtpServer.GmidDomain gmid (OptDomain.SomeDomain (PtpDomain.DomainName name)) }
+        ensures { result ≡ PtpServer.GmidDomain gmid (Some (PtpDomain.DomainName name)) }
     {
         PtpServer::GmidDomain {
             gmid,
-            domain: OptDomain::SomeDomain(PtpDomain::from_name(name)),
+            domain: Some(PtpDomain::from_name(name)),
         }
     }
 
     // A domain by number; over 127 it is refused.
-    pub fn try_from_ptp_gmid_with_domain_number(gmid: Eui64, number: u8) -> TriedPtpServer
+    #[tactic(auto, unfolding(crate::specs::Domain::tried))]
+    pub fn try_from_ptp_gmid_with_domain_number(
+        gmid: Eui64,
+        number: u8,
+    ) -> Result<PtpServer, Unmade>
         ensures { result ≡ tried_ptp_server gmid number }
     {
-        match PtpDomain::try_from_number(number) {
-            TriedPtpDomain::Made(domain) => TriedPtpServer::Made(PtpServer::from_gmid_with_domain(
-                gmid, domain,
-            )),
-            TriedPtpDomain::Refused(refusal) => TriedPtpServer::Refused(refusal),
-        }
+        let domain = PtpDomain::try_from_number(number)?;
+        Ok(PtpServer::from_gmid_with_domain(gmid, domain))
     }
 
     // Traceable: no GMID and no domain.
@@ -334,10 +338,12 @@ impl Eui64 {
     {
         self.id
     }
+}
 
-    pub fn from_u64(id: u64) -> Eui64
-        ensures { result ≡ eui64 id }
-    {
+impl From<u64> for Eui64 {
+    ghost from_gives = { λ n e. e ≡ eui64 n };
+
+    fn from(id: u64) -> Eui64 {
         Eui64::new(id)
     }
 }
@@ -350,35 +356,33 @@ impl PtpDomain {
         PtpDomain::DomainName { name }
     }
 
-    // A number from 0 to 127; over that the number of the refusal, 10.
-    pub fn try_from_number(number: u8) -> TriedPtpDomain
+    // A number from 0 to 127; over that it is refused.
+    #[tactic(auto, unfolding(crate::specs::Domain::tried))]
+    pub fn try_from_number(number: u8) -> Result<PtpDomain, Unmade>
         ensures { result ≡ tried_ptp_domain number }
     {
         if 127 < number {
-            return TriedPtpDomain::Refused(10);
+            return Err(Unmade::DomainOver127);
         }
-        TriedPtpDomain::Made(PtpDomain::DomainNumber(number))
+        Ok(PtpDomain::DomainNumber(number))
     }
 }
 
 impl ClockSourceExt {
     // A name without a value.
     pub fn new(name: Place) -> ClockSourceExt
-        ensures { result ≡ clock_source_ext name OptValue.NoValue }
+        ensures { result ≡ clock_source_ext name None }
     {
-        ClockSourceExt {
-            name,
-            value: OptValue::NoValue,
-        }
+        ClockSourceExt { name, value: None }
     }
 
     // A name and a value, which may be empty.
     pub fn with_value(name: Place, value: Place) -> ClockSourceExt
-        ensures { result ≡ clock_source_ext name (OptValue.SomeValue value) }
+        ensures { result ≡ clock_source_ext name (Some value) }
     {
         ClockSourceExt {
             name,
-            value: OptValue::SomeValue(value),
+            value: Some(value),
         }
     }
 

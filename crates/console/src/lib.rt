@@ -18,6 +18,13 @@ pub fn large_buffer() -> [u8; 65536]
     [0; 65536]
 }
 
+// So many bytes at the front of a text, or all of them where there are fewer.
+pub fn front(text: &[u8], len: usize) -> &[u8]
+    ensures { result.now ≡ take len text.now }
+{
+    &text[..len.min(text.len())]
+}
+
 // One read, behind the first `at` bytes.
 fn read_behind<R: Read>(from: &mut R, buf: &mut [u8], at: usize) -> io::Result<usize>
     requires { at < length buf.old }

@@ -1,4 +1,5 @@
 -- One law for each way out of the crate's functions. Assumes nothing.
+use Rattle.std.specs.Prelude.{Result, Ok, Err}
 use Prim.Native.Nat.{ℕ, ◌+◌, ◌*◌, ◌≤◌, ◌<◌, max, min}
 use mathlib.Core.Path.{◌≡◌, refl, sym, ap, ◌∙◌}
 use mathlib.Core.List.{List}
@@ -9,8 +10,6 @@ use lib.Seq.{sets, take_all}
 use borrow.Author.Tests.{lt-ltb, le-ltb, le-leb, lt-leb}
 use Rattle.clock.specs.declared.Refusal.{Refusal}
 use Rattle.clock.specs.declared.ReferenceClock.{ReferenceClock}
-use Rattle.clock.specs.declared.ReferenceClockRead.{ReferenceClockRead}
-use Rattle.clock.specs.declared.ReferenceClockRead.TheVariants.{Accepted, Refused}
 use Rattle.meaning.specs.ReferenceClock.{read_reference_clock}
 use Rattle.meaning.specs.Meaning.{ref_meaning}
 use Rattle.meaning.specs.Domain.{bare}
@@ -34,7 +33,7 @@ use Rattle.counting.specs.Counting.{one_refused_more, count_known, count_new, co
 use Rattle.counting.specs.Private.Clock.{CountsClock}
 
 -- an accepted value fits its slot
-pub accepted_short : (v : List ℕ) (k : ReferenceClock) → read_reference_clock v ≡ Accepted k → length v ≤ 1024
+pub accepted_short : (v : List ℕ) (k : ReferenceClock) → read_reference_clock v ≡ Ok k → length v ≤ 1024
 accepted_short v k e = ref_fits bare bare_lawful v k (ref_answer v k e)
 
 -- `count_known`
@@ -51,7 +50,7 @@ module _ (c : Census) (m v : List ℕ) (k : ReferenceClock) (u : ℕ) (eu : u �
   unfolding count_new
   new_full h r f = does_refuse (simp (← eu, ← ei, le-leb most_clocks i h)) f
 
-  pub new_done : read_reference_clock v ≡ Accepted k → i < most_clocks → (p : ℕ) → p ≡ fingerprint host_print (ref_meaning v k)
+  pub new_done : read_reference_clock v ≡ Ok k → i < most_clocks → (p : ℕ) → p ≡ fingerprint host_print (ref_meaning v k)
       → (m' : List ℕ) → m' ≡ sets m (i * slot_size) (slot_bytes 1 p (take 1024 v))
       → (a : Census) → a ≡ one_more (or_none (domain_in k)) c → (w : ℕ) → w ≡ max u (i + 1)
       → (r : Called) → r ≡ done_with (census w a.total a.refused a.domains)
@@ -91,7 +90,7 @@ pub refused_done : (c : Census) (t f : ℕ) → t ≡ plus c.total 1 → f ≡ p
 refused_done c t f et ef r er = er ∙ cc (et, ef)
 
 -- `count`
-pub accepted_is : (v : List ℕ) (x : ReferenceClockRead) (k : ReferenceClock) → x ≡ read_reference_clock v → x ≡ Accepted k → read_reference_clock v ≡ Accepted k
+pub accepted_is : (v : List ℕ) (x : Result ReferenceClock Refusal) (k : ReferenceClock) → x ≡ read_reference_clock v → x ≡ Ok k → read_reference_clock v ≡ Ok k
 accepted_is v x k e f = sym e ∙ f
 
 module _ (c : Census) (m v : List ℕ) where
@@ -104,8 +103,8 @@ module _ (c : Census) (m v : List ℕ) where
     unfolding count_outcome
     count_full k r e = record { does = λ i s. does_refuse (simp (le-ltb (length m) least_memory h, le-leb most_streams c.total k)) e }
 
-    module _ (k : c.total < most_streams) (x : ReferenceClockRead) (ex : x ≡ read_reference_clock v) where
-      pub count_refused : (q : Refusal) → x ≡ Refused q → (r : Called) → r ≡ done_with (one_refused_more c) → Counts c m v r m
+    module _ (k : c.total < most_streams) (x : Result ReferenceClock Refusal) (ex : x ≡ read_reference_clock v) where
+      pub count_refused : (q : Refusal) → x ≡ Err q → (r : Called) → r ≡ done_with (one_refused_more c) → Counts c m v r m
       unfolding count_outcome
       count_refused q e r er =
           record {
@@ -115,7 +114,7 @@ module _ (c : Census) (m v : List ℕ) where
                 does_leave o er refl;
           }
 
-      pub count_accepted : (a : ReferenceClock) → x ≡ Accepted a → (r : Called) (m' : List ℕ) → CountsClock c m v a r m' → Counts c m v r m'
+      pub count_accepted : (a : ReferenceClock) → x ≡ Ok a → (r : Called) (m' : List ℕ) → CountsClock c m v a r m' → Counts c m v r m'
       unfolding count_outcome
       count_accepted a e r m' w =
           record {

@@ -1,9 +1,7 @@
 -- Counting: a stream of a clock that has a slot is one more there, the first of a clock takes the first free slot, and a refused value has a count alone.
-use Rattle.std.specs.Prelude.{ℕ, ◌+◌, ◌*◌, max, ◌≡◌, List, cond, ltb, leb, length}
+use Rattle.std.specs.Prelude.{ℕ, ◌+◌, ◌*◌, max, ◌≡◌, List, cond, ltb, leb, length, Result, Ok, Err}
 use Rattle.std.proofs.lemmas.List.Edits.{sets}
 use Rattle.clock.specs.declared.ReferenceClock.{ReferenceClock}
-use Rattle.clock.specs.declared.ReferenceClockRead.{ReferenceClockRead}
-use Rattle.clock.specs.declared.ReferenceClockRead.TheVariants.{Accepted, Refused}
 use Rattle.meaning.specs.ReferenceClock.{read_reference_clock}
 use Rattle.meaning.specs.Meaning.{ref_meaning}
 use Rattle.equal.specs.Fingerprint.{fingerprint, host_print}
@@ -17,6 +15,7 @@ use Rattle.counts.specs.State.{census, used_in, plus, one_more}
 use Rattle.counts.specs.Outcome.{Outcome, leaves, refuses, Does}
 use Rattle.counts.specs.declared.Census.{Census}
 use Rattle.counts.specs.declared.Called.{Called}
+use Rattle.clock.specs.declared.Refusal.{Refusal}
 
 -- a stream of a refused value
 abbrev pub one_refused_more : Census → Census
@@ -38,9 +37,9 @@ count_new c m v k =
 unfoldable pub count_clock : Census → List ℕ → List ℕ → ReferenceClock → ℕ → Outcome
 count_clock c m v k i = cond (ltb i (used_in c)) (count_known c m k i) (count_new c m v k)
 
-abbrev pub count_read : Census → List ℕ → List ℕ → ℕ → ReferenceClockRead → Outcome
-count_read c m v i (Accepted k) = count_clock c m v k i
-count_read c m v i (Refused r) = leaves (one_refused_more c) m
+abbrev pub count_read : Census → List ℕ → List ℕ → ℕ → Result ReferenceClock Refusal → Outcome
+count_read c m v i (Ok k) = count_clock c m v k i
+count_read c m v i (Err r) = leaves (one_refused_more c) m
 
 -- a stream of the value v, where the slot of its clock is i
 unfoldable pub count_outcome : Census → List ℕ → List ℕ → ℕ → Outcome

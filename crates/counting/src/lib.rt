@@ -2,13 +2,12 @@
 #![tactic(auto)]
 
 ghost use Rattle.std.specs.Prelude.{◌≡◌, max};
-ghost use Rattle.clock.specs.declared.ReferenceClockRead.TheVariants.{Accepted};
 ghost use Rattle.meaning.specs.ReferenceClock.{read_reference_clock};
 ghost use Rattle.counts.specs.Outcome.{done_with, Does};
 ghost use Rattle.counting.specs.Counting.{one_refused_more, count_known, count_new, Counts};
 ghost use Rattle.counting.specs.Private.Clock.{CountsClock};
 
-use clock::{ReferenceClock, ReferenceClockRead};
+use clock::ReferenceClock;
 use counts::{Called, Census};
 use streams::{LEAST_MEMORY, MOST_CLOCKS, MOST_STREAMS, Uncounted};
 
@@ -23,7 +22,7 @@ fn count_known(census: Census, memory: &mut [u8], i: u16, clock: ReferenceClock)
 
 // The first stream of a clock gets a slot.
 fn count_new(census: Census, memory: &mut [u8], value: &[u8], clock: ReferenceClock) -> Called
-    requires { read_reference_clock value.now ≡ Accepted clock }
+    requires { read_reference_clock value.now ≡ Ok clock }
     ensures { Does (count_new census memory.old value.now clock) census memory.old result memory.new }
 {
     let used = counts::used_slots(census);
@@ -45,7 +44,7 @@ fn greatest(a: u16, b: u16) -> u16
 
 // A stream of an accepted value.
 fn count_clock(census: Census, memory: &mut [u8], value: &[u8], clock: ReferenceClock) -> Called
-    requires { read_reference_clock value.now ≡ Accepted clock }
+    requires { read_reference_clock value.now ≡ Ok clock }
     ensures { CountsClock census memory.old value.now clock result memory.new }
 {
     let used = counts::used_slots(census);
@@ -76,7 +75,7 @@ pub fn count(census: Census, memory: &mut [u8], value: &[u8]) -> Called
         return counts::refused(census, Uncounted::TotalFull);
     }
     let read = refclk::read_reference_clock(value);
-    let ReferenceClockRead::Accepted(clock) = read else {
+    let Ok(clock) = read else {
         return count_refused(census);
     };
     count_clock(census, memory, value, clock)

@@ -1,15 +1,14 @@
 -- What a call answers, and what it leaves: the census, and every byte of the memory.
-use Rattle.std.specs.Prelude.{ℕ, ◌≡◌, List}
-use Rattle.streams.specs.declared.Verdict.TheVariants.{Done, Refused}
+use Rattle.std.specs.Prelude.{ℕ, ◌≡◌, List, Ok, Err}
 use Rattle.streams.specs.declared.Uncounted.{Uncounted}
 use Rattle.counts.specs.declared.Census.{Census}
 use Rattle.counts.specs.declared.Called.{Called}
 
 abbrev pub done_with : Census → Called
-done_with c = record { verdict = Done; census = c }
+done_with c = record { verdict = (Ok tt); census = c }
 
 abbrev pub refused_with : Census → Uncounted → Called
-refused_with c why = record { verdict = Refused why; census = c }
+refused_with c why = record { verdict = Err why; census = c }
 
 -- a call leaves a census and a memory, or is refused
 pub data Outcome : Type 0 where

@@ -7,7 +7,7 @@ ghost use Rattle.counts.specs.State.{census as censusOf, fresh_census, used_in, 
 ghost use Rattle.counts.specs.Outcome.{done_with, refused_with};
 
 use clock::ReferenceClock;
-use streams::{MOST_CLOCKS, MOST_STREAMS, Uncounted, Verdict};
+use streams::{MOST_CLOCKS, MOST_STREAMS, Uncounted};
 
 // How many slots of the memory were ever used; all streams; those of refused values; those of each domain number.
 #[derive(Clone, Copy)]
@@ -21,7 +21,7 @@ pub struct Census {
 // What a call answers, and the census after it.
 #[derive(Clone, Copy)]
 pub struct Called {
-    pub verdict: Verdict,
+    pub verdict: Result<(), Uncounted>,
     pub census: Census,
 }
 
@@ -41,7 +41,7 @@ pub fn done(census: Census) -> Called
     ensures { result ≡ done_with census }
 {
     Called {
-        verdict: Verdict::Done,
+        verdict: Ok(()),
         census,
     }
 }
@@ -50,7 +50,7 @@ pub fn refused(census: Census, why: Uncounted) -> Called
     ensures { result ≡ refused_with census why }
 {
     Called {
-        verdict: Verdict::Refused(why),
+        verdict: Err(why),
         census,
     }
 }

@@ -24,9 +24,8 @@ use Rattle.ipaddr.specs.Address.{hexdig, dec_octet, ipv4address, h16, h16colon, 
 use Rattle.meaning.specs.Answer.{extension_of}
 use Rattle.meaning.specs.Domain.{bare, bare_read}
 use Rattle.meaning.specs.ReferenceClock.{port_of, address_of, bracket_of, host_of, ntp_of, version_of, gmid_of, domain_of, server_of, ptp_of, clock_of}
-use Rattle.meaning.specs.ReferenceClock.{as_reference_clock_read}
 use Rattle.meaning.specs.MediaClock.{denominator_of, ratio_of, rate_of, offset_of, direct_of, stream_of, media_clock_of, tag_of, id_of, tagged_of, source_of}
-use Rattle.meaning.specs.MediaClock.{media_clock_source_of, as_media_clock_source_read, read_media_clock_source}
+use Rattle.meaning.specs.MediaClock.{media_clock_source_of, read_media_clock_source}
 use Rattle.meaning.specs.Meaning.{ref_meaning, media_meaning}
 use Rattle.meaning.specs.Text.{ref_meaning_text, reference_clock_text}
 use Rattle.meaning.proofs.Told.{guarded_well}
@@ -51,7 +50,7 @@ pair e f = rw (e, f)
 
 -- ts-refclk
 abbrev ref_both_quick : List ℕ → List RefKind × Says RefKind
-ref_both_quick s = (takers quick_ref s ref_kinds, ref_said s (as_reference_clock_read (clock_of bare s)))
+ref_both_quick s = (takers quick_ref s ref_kinds, ref_said s (clock_of bare s))
 
 ref_agree : (s : List ℕ) → short s ≡ true → ref_both s ≡ ref_both_quick s
 unfolding ref_says
@@ -65,7 +64,7 @@ unfolding ref_meaning clock_of ntp_of host_of bracket_of address_of port_of ptp_
 ref_rows_lem = each_where ref_both ref_both_quick short ref_agree ref_rows refl refl
 
 abbrev written_both_quick : List ℕ → List ℕ × List RefKind
-written_both_quick s = let t = text_of s (as_reference_clock_read (clock_of bare s)) in (t, takers quick_ref t ref_kinds)
+written_both_quick s = let t = text_of s (clock_of bare s) in (t, takers quick_ref t ref_kinds)
 
 written_agree : (s : List ℕ) → short s ≡ true → written_both s ≡ written_both_quick s
 written_agree s h = rw (ref_plain s h) (pair refl (takers_same (clksrc_of published) quick_ref ref_quick _ ref_kinds))
@@ -80,7 +79,7 @@ ref_written_lem = each_where written_both written_both_quick short written_agree
 
 -- mediaclk
 abbrev source_both_quick : List ℕ → List SourceKind × Says SourceKind
-source_both_quick s = (takers quick_source s source_kinds, media_said s (as_media_clock_source_read (source_of s)))
+source_both_quick s = (takers quick_source s source_kinds, media_said s (source_of s))
 
 source_agree : (s : List ℕ) → short s ≡ true → source_both s ≡ source_both_quick s
 unfolding media_says read_media_clock_source media_clock_source_of
@@ -88,7 +87,7 @@ source_agree s h =
     let l = leb-true (length s) 1024 (and_left (leb (length s) 1024) (ascii s) h) in
     let w = utf8_all_ascii s (and_right (leb (length s) 1024) (ascii s) h) in
     pair (takers_same (mediaclk_of published) quick_source source_quick s source_kinds)
-    (ap (λ a. media_said s (as_media_clock_source_read a)) (guarded_well s (source_of s) l w))
+    (ap (λ a. media_said s (a)) (guarded_well s (source_of s) l w))
 
 pub source_rows_lem : Each source_both source_rows
 unfolding media_meaning source_of tagged_of id_of tag_of media_clock_of stream_of direct_of offset_of rate_of ratio_of denominator_of extension_of before same

@@ -1,17 +1,17 @@
 -- Where reading departs from the RFC: texts, the alternatives of the published grammar that take each, and what reading says of it.
 -- `proofs/Departures.antt` proves the rows.
-use Rattle.std.specs.Prelude.{ℕ, cond, List, [], ◌∷◌, ◌++◌}
+use Rattle.std.specs.Prelude.{ℕ, cond, List, [], ◌∷◌, ◌++◌, Result, Ok, Err}
 use Rattle.text.specs.Word.{word}
 use Rattle.text.specs.Example.{Example, ◌gives◌}
 use Rattle.abnf.specs.Rule.{Rule}
-use Rattle.clock.specs.declared.ReferenceClockRead.{ReferenceClockRead}
-use Rattle.clock.specs.declared.ReferenceClockRead.TheVariants as ref
 use Rattle.meaning.specs.ReferenceClock.{read_reference_clock}
 use Rattle.meaning.specs.Text.{reference_clock_text}
 use Rattle.rfc7273.specs.Manner.{published}
 use Rattle.rfc7273.specs.Kinds.{Says, accepted_as, refused_with, RefKind, ntp, ptp, gps, gal, glonass, local, private, ref_ext, ref_says, no_id, plain_id}
 use Rattle.rfc7273.specs.Kinds.{src_id, sender, direct, stream, media_ext, SourceKind, ◌with_id◌, media_says}
 use Rattle.rfc7273.specs.Grammar.{clksrc_of, mediaclk_of}
+use Rattle.clock.specs.declared.ReferenceClock.{ReferenceClock}
+use Rattle.clock.specs.declared.Refusal.{Refusal}
 
 -- those kinds whose alternative takes the text s
 module _ {K : Type 0} (alternative : K → Rule) (s : List ℕ) where
@@ -203,9 +203,9 @@ source_ill_formed =
     ∷ []
 
 -- ts-refclk, written: the text of an accepted value, and the published alternatives that take that
-abbrev pub text_of : List ℕ → ReferenceClockRead → List ℕ
-text_of s (ref.Accepted c) = reference_clock_text s c
-text_of s (ref.Refused r) = []
+abbrev pub text_of : List ℕ → Result ReferenceClock Refusal → List ℕ
+text_of s (Ok c) = reference_clock_text s c
+text_of s (Err r) = []
 
 abbrev pub written_both : List ℕ → List ℕ × List RefKind
 written_both s = let t = text_of s (read_reference_clock s) in (t, takers (clksrc_of published) t ref_kinds)

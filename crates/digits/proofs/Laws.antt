@@ -12,7 +12,7 @@ use Rattle.text.proofs.Bools.{each_below, each_below_lem}
 use Rattle.text.proofs.Left.{rest_is}
 use Rattle.number.specs.Decimal.{decimal}
 use Rattle.number.proofs.Written.{decimal_one, decimal_more, decimal_length}
-use borrow.Author.Tests.{lt-ltb, le-ltb, eqb-true}
+use borrow.Author.Tests.{eqb-true}
 use Rattle.number.specs.Hex.{hex_capital, hex_small, hex_capitals, hex_bytes}
 use Rattle.eui64.specs.Eui64.{segment_text, segments_text, eui64_text}
 use Rattle.room.specs.Put.{Put}
@@ -87,32 +87,31 @@ module _ {n : ℕ} {digits : List ℕ} {first left : ℕ} (p : Spelled n digits 
         → Put (length (decimal n)) l at (decimal n) last r
     spelled_end q t = rw spelled (put_wider (put_then q t) (omega (arith, few)))
 
--- `put_decimal` and `put_decimal_u64`
-module _ (n : ℕ) where
-  pub ten_digits : n < 2 ^ 32 → length (decimal n) ≤ 10
-  ten_digits h = decimal_length 9 n (omega arith) (omega arith)
+-- `put_decimal` and `put_decimal_u64`: `m` is the number at 64 bits
+module _ {n m at next : ℕ} {l r : List ℕ} (e : m ≡ n) (p : Put (length (decimal m)) l at (decimal m) next r) where
+  pub ten_put : n < 2 ^ 32 → Put 10 l at (decimal n) next r
+  ten_put h = rw e at (put_wider p (decimal_length 9 m (omega (arith, e)) (omega (arith, e))))
 
-  pub twenty_digits : n < 2 ^ 64 → length (decimal n) ≤ 20
-  twenty_digits h = decimal_length 19 n (omega arith) (omega arith)
+  pub twenty_put : n < 2 ^ 64 → Put 20 l at (decimal n) next r
+  twenty_put h = rw e at (put_wider p (decimal_length 19 m (omega (arith, e)) (omega (arith, e))))
 
-  module _ {at next : ℕ} {l m : List ℕ} (p : Put (length (decimal n)) l at (decimal n) next m) where
-    pub ten_put : n < 2 ^ 32 → Put 10 l at (decimal n) next m
-    ten_put h = put_wider p (ten_digits h)
-
-    pub twenty_put : n < 2 ^ 64 → Put 20 l at (decimal n) next m
-    twenty_put h = put_wider p (twenty_digits h)
-
--- `hex_capital`: the table has each digit at its place
+-- `hex_capital`, `hex_small`: a table of sixteen has each digit at its place
 abbrev capitals : List ℕ
 capitals = 48 ∷ 49 ∷ 50 ∷ 51 ∷ 52 ∷ 53 ∷ 54 ∷ 55 ∷ 56 ∷ 57 ∷ 65 ∷ 66 ∷ 67 ∷ 68 ∷ 69 ∷ 70 ∷ []
 
-all_capitals : each_below 16 (λ d. eqb (get_or capitals d 0) (hex_capital d)) ≡ true
-unfolding hex_capital
-all_capitals = refl
+abbrev smalls : List ℕ
+smalls = 48 ∷ 49 ∷ 50 ∷ 51 ∷ 52 ∷ 53 ∷ 54 ∷ 55 ∷ 56 ∷ 57 ∷ 97 ∷ 98 ∷ 99 ∷ 100 ∷ 101 ∷ 102 ∷ []
+
+table_is : (l : List ℕ) (f : ℕ → ℕ) → each_below 16 (λ d. eqb (get_or l d 0) (f d)) ≡ true → (d : ℕ) → d < 16 → get_or l d 0 ≡ f d
+table_is l f e d h = eqb-true (get_or l d 0) (f d) (each_below_lem 16 (λ k. eqb (get_or l k 0) (f k)) e d h)
 
 pub capital_table : (d : ℕ) → d < 16 → get_or capitals d 0 ≡ hex_capital d
-capital_table d h =
-    eqb-true (get_or capitals d 0) (hex_capital d) (each_below_lem 16 (λ k. eqb (get_or capitals k 0) (hex_capital k)) all_capitals d h)
+unfolding hex_capital
+capital_table = table_is capitals hex_capital refl
+
+pub small_table : (d : ℕ) → d < 16 → get_or smalls d 0 ≡ hex_small d
+unfolding hex_small
+small_table = table_is smalls hex_small refl
 
 -- `put_eui64`: the last k segments of a number, each with a dash behind it
 unfoldable pub dashed : ℕ → ℕ → List ℕ
@@ -233,15 +232,6 @@ module _ {n : ℕ} {digits : List ℕ} {first left : ℕ} (p : InHex n digits fi
   pub in_hex_end : (at next : ℕ) (l m : List ℕ) → first ≤ 0 → Put (length digits) l at digits next m → Put 16 l at (hex_capitals 16 n) next m
   in_hex_end at next l m h q = rw (p.so_far, hex_none first left digits h) (put_wider q (omega (arith, p.size)))
 
--- `hex_small`
-pub small_digit : (d : ℕ) → d < 10 → 48 + d ≡ hex_small d
-unfolding hex_small
-small_digit d h = simp (lt-ltb d 10 h)
-
-pub small_letter : (d : ℕ) → 10 ≤ d → 97 + (d - 10) ≡ hex_small d
-unfolding hex_small
-small_letter d h = simp (le-ltb d 10 h)
-
 -- `put_hex_byte`
 pub hex_byte_put : (b x y at next last : ℕ) (l m r : List ℕ) → x ≡ hex_small (b / 16) → y ≡ hex_small (b % 16)
     → Put 1 l at (x ∷ []) next m → Put 1 m next (y ∷ []) last r → Put 2 l at (hex_bytes (b ∷ [])) last r
@@ -283,6 +273,7 @@ pub ruleset laws = (
   ten_put,
   twenty_put,
   capital_table,
+  small_table,
   dashed_start,
   dashed_place,
   dashed_next,
@@ -291,8 +282,6 @@ pub ruleset laws = (
   in_hex_start,
   in_hex_next,
   in_hex_end,
-  small_digit,
-  small_letter,
   hex_byte_put,
   hex_start,
   hex_more,

@@ -17,7 +17,7 @@ fn put_digits(room: &mut [u8], at: usize, n: u64) -> usize
     while 10 <= left {
         first -= 1;
         digits[first] = b'0' + (left % 10) as u8;
-        left = left / 10;
+        left /= 10;
     }
     let to = room::put_byte(room, at, b'0' + left as u8);
     room::put_bytes(room, to, &digits[first..])
@@ -26,7 +26,7 @@ fn put_digits(room: &mut [u8], at: usize, n: u64) -> usize
 pub fn put_decimal(room: &mut [u8], at: usize, n: u32) -> usize
     ensures { Put 10 room.old at (decimal n) result room.new }
 {
-    put_digits(room, at, n as u64)
+    put_digits(room, at, u64::from(n))
 }
 
 pub fn put_decimal_u64(room: &mut [u8], at: usize, n: u64) -> usize
@@ -40,9 +40,7 @@ fn hex_capital(d: u8) -> u8
     requires { d < 16 }
     ensures { result ≡ hex_capital d }
 {
-    let digits = b"0123456789ABCDEF";
-    let i = d as usize;
-    digits[i]
+    b"0123456789ABCDEF"[d as usize]
 }
 
 // The segments of an EUI-64, the last made first, each with a `-` behind it. The `-` behind the last one is not put.
@@ -50,16 +48,14 @@ pub fn put_eui64(room: &mut [u8], at: usize, id: u64) -> usize
     ensures { Put 23 room.old at (eui64_text id) result room.new }
 {
     let mut text = [0u8; 24];
-    let mut segments: usize = 8;
     let mut left = id;
-    while 0 < segments {
-        segments -= 1;
-        let first = segments * 3;
+    for segment in (0..8usize).rev() {
+        let first = segment * 3;
         let b = (left % 256) as u8;
         text[first + 2] = b'-';
         text[first + 1] = hex_capital(b % 16);
         text[first] = hex_capital(b / 16);
-        left = left / 256;
+        left /= 256;
     }
     room::put_bytes(room, at, &text[..23])
 }
@@ -69,12 +65,10 @@ pub fn put_hex_u64(room: &mut [u8], at: usize, n: u64) -> usize
     ensures { Put 16 room.old at (hex_capitals 16 n) result room.new }
 {
     let mut digits = [0u8; 16];
-    let mut first: usize = 16;
     let mut left = n;
-    while 0 < first {
-        first -= 1;
-        digits[first] = hex_capital((left % 16) as u8);
-        left = left / 16;
+    for place in (0..16usize).rev() {
+        digits[place] = hex_capital((left % 16) as u8);
+        left /= 16;
     }
     room::put_bytes(room, at, &digits)
 }
@@ -84,10 +78,7 @@ fn hex_small(d: u8) -> u8
     requires { d < 16 }
     ensures { result ≡ hex_small d }
 {
-    if d < 10 {
-        return b'0' + d;
-    }
-    b'a' + (d - 10)
+    b"0123456789abcdef"[d as usize]
 }
 
 fn put_hex_byte(room: &mut [u8], at: usize, b: u8) -> usize
@@ -102,10 +93,8 @@ pub fn put_hex_bytes(room: &mut [u8], at: usize, src: &[u8]) -> usize
     ensures { Put (2 * length src.now) room.old at (hex_bytes src.now) result room.new }
 {
     let mut to = at;
-    let mut i = 0;
-    while i < src.len() {
-        to = put_hex_byte(room, to, src[i]);
-        i += 1;
+    for b in src {
+        to = put_hex_byte(room, to, *b);
     }
     to
 }

@@ -1,136 +1,100 @@
-// What follows `direct` in a mediaclk value: the clock, or the refusal of the first rule that is broken. Each text starts at the place `at` of the
-// whole value, and the places in it fit a usize.
+// What follows `direct` in a mediaclk value: the clock, or the refusal of the first rule that is broken.
 #![tactic(auto)]
 
-ghost use Rattle.std.specs.Prelude.{◌≡◌, ◌+◌, ◌^◌, ◌<◌, length};
-ghost use Rattle.meaning.specs.MediaClock.{denominator_of, ratio_of, rate_of, offset_of, direct_of};
-ghost use Rattle.direct.specs.Private.AsAnswer.{denominator_answer, rate_answer};
-ghost use Rattle.direct.specs.AsAnswer.{direct_answer};
+ghost use Rattle.std.specs.Prelude.{◌≡◌};
+ghost use Rattle.meaning.specs.Answer.{number_at};
+ghost use Rattle.meaning.specs.MediaClock.{most32, denominator_of, ratio_of, rate_of, offset_of, direct_of};
 
 use clock::Refusal;
-use mediarecord::{Direct, OptOffset, OptRate, Rate};
+use mediarecord::{Direct, Rate};
+use part::Part;
 
-const MOST_32: u32 = 4294967295;
-
-#[derive(Clone, Copy)]
-enum DenominatorRead {
-    Accepted(u32),
-    Refused(Refusal),
-}
-
-#[derive(Clone, Copy)]
-enum RateRead {
-    Accepted(OptRate),
-    Refused(Refusal),
-}
-
-#[derive(Clone, Copy)]
-pub enum DirectRead {
-    Accepted(Direct),
-    Refused(Refusal),
+// A number of 32 bits, or the refusal of all of its text.
+#[tactic(auto, using(crate::proofs::Laws::laws))]
+fn read_u32(p: Part, number: u8) -> Result<u32, Refusal>
+    ensures { result ≡ number_at most32 number p.entry.at p.entry.text.now }
+{
+    let refusal = p.refused(number);
+    number::read_number(p.text, u32::MAX).map_err(|_| refusal)
 }
 
 // A number, and not 0.
-fn read_denominator(p: &[u8], at: usize) -> DenominatorRead
-    ensures { denominator_answer result ≡ denominator_of at p.now }
+#[tactic(auto, using(crate::proofs::Laws::laws))]
+fn read_denominator(p: Part) -> Result<u32, Refusal>
+    ensures { result ≡ denominator_of p.entry.at p.entry.text.now }
 {
-    let n = p.len();
-    let got = number::read_number(p, MOST_32);
-    let number::Number::Value(denominator) = got else {
-        return DenominatorRead::Refused(Refusal::new(18, at, n));
-    };
+    let denominator = read_u32(p, 18)?;
     if denominator == 0 {
-        return DenominatorRead::Refused(Refusal::new(18, at, n));
+        return Err(p.refused(18));
     }
-    DenominatorRead::Accepted(denominator)
+    Ok(denominator)
 }
 
 // Behind `rate=`: the numerator up to the first `/`, then the denominator.
-fn read_ratio(p: &[u8], at: usize) -> RateRead
-    requires { at + length p.now < 2 ^ 64 }
-    ensures { rate_answer result ≡ ratio_of at p.now }
+#[tactic(auto, using(crate::proofs::Laws::laws))]
+fn read_ratio(p: Part) -> Result<Option<Rate>, Refusal>
+    ensures { result ≡ ratio_of p.entry.at p.entry.text.now }
 {
-    let n = p.len();
-    let i = search::find(p, b'/');
-    if n <= i {
-        return RateRead::Refused(Refusal::new(16, at, n));
-    }
-    let got = number::read_number(&p[..i], MOST_32);
-    let number::Number::Value(numerator) = got else {
-        return RateRead::Refused(Refusal::new(17, at, i));
+    let Some((numerator, denominator)) = p.split_once(b'/') else {
+        return Err(p.refused(16));
     };
-    let d = i + 1;
-    let start = at + d;
-    match read_denominator(&p[d..], start) {
-        DenominatorRead::Accepted(denominator) => {
-            let rate = Rate {
-                numerator,
-                denominator,
-            };
-            RateRead::Accepted(OptRate::SomeRate(rate))
-        }
-        DenominatorRead::Refused(r) => RateRead::Refused(r),
-    }
+    let numerator = read_u32(numerator, 17)?;
+    let denominator = read_denominator(denominator)?;
+    Ok(Some(Rate {
+        numerator,
+        denominator,
+    }))
 }
 
 // What is left of a direct clock: nothing, or `rate=`.
-fn read_rate(p: &[u8], at: usize) -> RateRead
-    requires { at + length p.now < 2 ^ 64 }
-    ensures { rate_answer result ≡ rate_of at p.now }
+#[tactic(auto, using(crate::proofs::Laws::laws))]
+fn read_rate(p: Part) -> Result<Option<Rate>, Refusal>
+    ensures { result ≡ rate_of p.entry.at p.entry.text.now }
 {
-    let n = p.len();
-    if n == 0 {
-        return RateRead::Accepted(OptRate::NoRate);
+    if p.text.is_empty() {
+        return Ok(None);
     }
-    if text::has_prefix(p, b"rate=") {
-        return read_ratio(&p[5..], at + 5);
+    match p.strip_prefix(b"rate=") {
+        Some(ratio) => read_ratio(ratio),
+        None => Err(p.refused(15)),
     }
-    RateRead::Refused(Refusal::new(15, at, n))
 }
 
 // Behind `direct=`: the offset up to the first space, and what is left behind that.
-fn read_offset(p: &[u8], at: usize) -> DirectRead
-    requires { at + length p.now < 2 ^ 64 }
-    ensures { direct_answer result ≡ offset_of at p.now }
+#[tactic(auto, using(crate::proofs::Laws::laws))]
+fn read_offset(p: Part) -> Result<Direct, Refusal>
+    ensures { result ≡ offset_of p.entry.at p.entry.text.now }
 {
-    let n = p.len();
-    let i = search::find(p, b' ');
-    let got = number::read_number(&p[..i], MOST_32);
-    let number::Number::Value(number) = got else {
-        return DirectRead::Refused(Refusal::new(14, at, i));
+    let Some((offset, rate)) = p.split_once(b' ') else {
+        let offset = Some(read_u32(p, 14)?);
+        return Ok(Direct { offset, rate: None });
     };
-    let offset = OptOffset::SomeOffset(number);
-    if n <= i {
-        let rate = OptRate::NoRate;
-        return DirectRead::Accepted(Direct { offset, rate });
-    }
-    let d = i + 1;
-    let start = at + d;
-    match read_rate(&p[d..], start) {
-        RateRead::Accepted(rate) => DirectRead::Accepted(Direct { offset, rate }),
-        RateRead::Refused(r) => DirectRead::Refused(r),
-    }
+    let offset = Some(read_u32(offset, 14)?);
+    let rate = read_rate(rate)?;
+    Ok(Direct { offset, rate })
 }
 
 // Nothing; or `=` and an offset; or a space. From a place of 32 bits on no place overflows, however long the text is.
-pub fn read_direct(p: &[u8], at: u32) -> DirectRead
-    ensures { direct_answer result ≡ direct_of at p.now }
+#[tactic(auto, using(crate::proofs::Laws::laws))]
+pub fn read_direct(p: &[u8], at: u32) -> Result<Direct, Refusal>
+    ensures { result ≡ direct_of at p.now }
 {
-    let n = p.len();
-    let start = at as usize;
-    let offset = OptOffset::NoOffset;
-    if n == 0 {
-        let rate = OptRate::NoRate;
-        return DirectRead::Accepted(Direct { offset, rate });
+    let p = Part {
+        text: p,
+        at: at as usize,
+    };
+    if p.text.is_empty() {
+        return Ok(Direct {
+            offset: None,
+            rate: None,
+        });
     }
-    if text::has_prefix(p, b"=") {
-        return read_offset(&p[1..], start + 1);
+    if let Some(offset) = p.strip_prefix(b"=") {
+        return read_offset(offset);
     }
-    if text::has_prefix(p, b" ") {
-        match read_rate(&p[1..], start + 1) {
-            RateRead::Accepted(rate) => return DirectRead::Accepted(Direct { offset, rate }),
-            RateRead::Refused(r) => return DirectRead::Refused(r),
-        }
+    if let Some(rate) = p.strip_prefix(b" ") {
+        let rate = read_rate(rate)?;
+        return Ok(Direct { offset: None, rate });
     }
-    DirectRead::Refused(Refusal::new(15, start, n))
+    Err(p.refused(15))
 }

@@ -1,9 +1,9 @@
 -- What the code's shape says decides equality: a meaning comes back from what it says. Assumes nothing.
+use Rattle.std.specs.Prelude.{Option, Some, None}
 use Prim.Native.Nat.{ℕ, zero, suc}
 use mathlib.Core.Path.{◌≡◌, refl, sym, ap, ◌∙◌}
 use mathlib.Core.List.{List}
 use mathlib.Core.Bool.{Bool, true, cond, ◌&&◌}
-use mathlib.Core.Option.{Option, none, some}
 use lib.Dec.{eqb}
 use borrow.Author.Tests.{eq-eqb, eqb-true}
 use Rattle.text.specs.Word.{same}
@@ -66,11 +66,11 @@ are_alike hosts x g h = both h (behind_self x)
 
 -- the meaning that says this
 number_back : ℕ → Option ℕ
-number_back zero = none
-number_back (suc n) = some n
+number_back zero = None
+number_back (suc n) = Some n
 
 abbrev bytes_back : ℕ → List ℕ → Option (List ℕ)
-bytes_back k s = cond (eqb k 0) none (some s)
+bytes_back k s = cond (eqb k 0) None (Some s)
 
 abbrev version_back : ℕ → List ℕ → Version
 version_back f s =
@@ -79,9 +79,9 @@ version_back f s =
 abbrev server_back : Flat → Server
 server_back x =
     cond (eqb x.first 0) means.traceable
-    (cond (eqb x.first 1) (means.gmid x.second none)
-    (cond (eqb x.first 2) (means.gmid x.second (some (means.name x.value)))
-    (means.gmid x.second (some (means.number x.third)))))
+    (cond (eqb x.first 1) (means.gmid x.second None)
+    (cond (eqb x.first 2) (means.gmid x.second (Some (means.name x.value)))
+    (means.gmid x.second (Some (means.number x.third)))))
 
 clock_back : Flat → RefMeaning
 clock_back x =
@@ -105,17 +105,17 @@ version_back_lem (means.own_version s) = refl
 ptp_back : (g : List ℕ) (v : Version) (s : Server) → means.ptp v s ≡ clock_back (headed g (server_says (version_kind v) (version_name v) s))
 unfolding clock_back
 ptp_back g v means.traceable = simp (version_back_lem v)
-ptp_back g v (means.gmid n none) = simp (version_back_lem v)
-ptp_back g v (means.gmid n (some (means.name s))) = simp (version_back_lem v)
-ptp_back g v (means.gmid n (some (means.number d))) = simp (version_back_lem v)
+ptp_back g v (means.gmid n None) = simp (version_back_lem v)
+ptp_back g v (means.gmid n (Some (means.name s))) = simp (version_back_lem v)
+ptp_back g v (means.gmid n (Some (means.number d))) = simp (version_back_lem v)
 
 -- with a head that is alike comes back a meaning of that clock: only a host is told by its head
 module _ (hosts : Hosts) (g : List ℕ) where
   clock_back_lem : (m : RefMeaning) → hosts (clock_says m).head g ≡ true → OneClock hosts m (clock_back (headed g (clock_says m)))
-  unfolding clock_says clock_back number_back
+  unfolding clock_back number_back
   clock_back_lem means.ntp_traceable e = equal refl
-  clock_back_lem (means.ntp_host h none) e = servers h g none e refl refl
-  clock_back_lem (means.ntp_host h (some n)) e = servers h g (some n) e refl refl
+  clock_back_lem (means.ntp_host h None) e = servers h g None e refl refl
+  clock_back_lem (means.ntp_host h (Some n)) e = servers h g (Some n) e refl refl
   clock_back_lem (means.ptp v s) e = equal (ptp_back g v s)
   clock_back_lem means.gps e = equal refl
   clock_back_lem means.gal e = equal refl
@@ -123,8 +123,8 @@ module _ (hosts : Hosts) (g : List ℕ) where
   clock_back_lem means.local e = equal refl
   clock_back_lem means.private_standard e = equal refl
   clock_back_lem means.private_traceable e = equal refl
-  clock_back_lem (means.ref_ext n none) e = equal refl
-  clock_back_lem (means.ref_ext n (some v)) e = equal refl
+  clock_back_lem (means.ref_ext n None) e = equal refl
+  clock_back_lem (means.ref_ext n (Some v)) e = equal refl
 
 -- where hosts are compared byte by byte, what means one clock is equal
 pub one_equal : (m n : RefMeaning) → OneClock same m n → m ≡ n
@@ -143,7 +143,7 @@ module _ (hosts : Hosts) (m n : RefMeaning) where
       rw (ap clock_back (alike_behind hosts x y e) ∙ clock_is_back n) at (clock_back_lem hosts y.head m (alike_head hosts x y e))
 
   alike_found : ((h : List ℕ) → hosts h h ≡ true) → OneClock hosts m n → alike hosts m n ≡ true
-  unfolding alike clock_says
+  unfolding alike
   alike_found self (equal e) = rw e (are_alike hosts (clock_says n) (clock_says n).head (self (clock_says n).head))
   alike_found self (servers h g port e a b) = rw (a, b) (are_alike hosts (clock_says (means.ntp_host h port)) g e)
 
@@ -151,11 +151,11 @@ pub alike_decides : AlikeDecides
 alike_decides hosts q m n = record { right = alike_right hosts m n; found = alike_found hosts m n q.to_self }
 
 abbrev tag_back : ℕ → List ℕ → Option Tag
-tag_back k t = cond (eqb k 0) none (cond (eqb k 1) (some (means.plain_tag t)) (some (means.src_tag t)))
+tag_back k t = cond (eqb k 0) None (cond (eqb k 1) (Some (means.plain_tag t)) (Some (means.src_tag t)))
 
 abbrev rate_back : ℕ → ℕ → Option Ratio
-rate_back zero d = none
-rate_back (suc n) d = some (means.ratio n d)
+rate_back zero d = None
+rate_back (suc n) d = Some (means.ratio n d)
 
 abbrev media_back : Flat → MediaMeaning
 media_back x =
@@ -168,23 +168,22 @@ source_back : Flat → SourceMeaning
 source_back x = means.media_source (tag_back x.form x.head) (media_back x)
 
 tag_back_lem : (t : Option Tag) → tag_back (tag_kind t) (tag_bytes t) ≡ t
-tag_back_lem none = refl
-tag_back_lem (some (means.plain_tag t)) = refl
-tag_back_lem (some (means.src_tag t)) = refl
+tag_back_lem None = refl
+tag_back_lem (Some (means.plain_tag t)) = refl
+tag_back_lem (Some (means.src_tag t)) = refl
 
 media_back_lem : (f : ℕ) (t : List ℕ) (m : MediaMeaning) → source_back (media_says f t m) ≡ means.media_source (tag_back f t) m
 unfolding source_back number_back
 media_back_lem f t means.sender = refl
-media_back_lem f t (means.direct none none) = refl
-media_back_lem f t (means.direct none (some (means.ratio n d))) = refl
-media_back_lem f t (means.direct (some k) none) = refl
-media_back_lem f t (means.direct (some k) (some (means.ratio n d))) = refl
+media_back_lem f t (means.direct None None) = refl
+media_back_lem f t (means.direct None (Some (means.ratio n d))) = refl
+media_back_lem f t (means.direct (Some k) None) = refl
+media_back_lem f t (means.direct (Some k) (Some (means.ratio n d))) = refl
 media_back_lem f t (means.stream n) = refl
-media_back_lem f t (means.media_ext n none) = refl
-media_back_lem f t (means.media_ext n (some v)) = refl
+media_back_lem f t (means.media_ext n None) = refl
+media_back_lem f t (means.media_ext n (Some v)) = refl
 
 source_back_lem : (m : SourceMeaning) → source_back (source_says m) ≡ m
-unfolding source_says
 source_back_lem (means.media_source id clock) =
     media_back_lem (tag_kind id) (tag_bytes id) clock ∙ ap (λ (t : Option Tag). means.media_source t clock) (tag_back_lem id)
 

@@ -27,7 +27,7 @@ numbers_mixed n kind form first second third a b c d e r ea eb ec ed ee er = rw 
 pub fingerprint_is : (v a b d : Lent) (c : ReferenceClock) (p : Parts) → Says p (clock_over c)
     → PartAt v p.head a → (host : ℕ) → host ≡ host_print a.now
     → PartAt v p.name b → (named : ℕ) → named ≡ mixed_text host b.now
-    → (numbered : ℕ) → numbered ≡ mixed_numbers named p.kind p.form p.first p.second p.third
+    → (numbered : ℕ) → numbered ≡ mixed_numbers named p.numbers.kind p.numbers.form p.numbers.first p.numbers.second p.numbers.third
     → PartAt v p.value d → (r : ℕ) → r ≡ mixed_text numbered d.now → r ≡ fingerprint host_print (ref_meaning v.now c)
 unfolding columns clock_over
 fingerprint_is v a b d c p says pa host eh pb named en numbered ek pd r e =

@@ -1,9 +1,9 @@
 -- What means one clock shares a fingerprint, which has 32 bits. Assumes nothing.
+use Rattle.std.specs.Prelude.{Option, Some, None}
 use Prim.Native.Nat.{ℕ, ◌<◌}
 use native.Mathlib.Omega.{arith}
 use mathlib.Core.Path.{◌≡◌, refl, sym, ap}
 use mathlib.Core.List.{List, [], ◌∷◌}
-use mathlib.Core.Option.{Option, none, some}
 use Rattle.hostprint.specs.Mixed.{mixed, mixed_text}
 use Rattle.hostprint.proofs.Shared.{print_shared}
 use Rattle.meaning.specs.Meaning.{Server, RefMeaning}
@@ -17,8 +17,8 @@ use Rattle.equal.specs.Private.Flat.{Flat, server_says, clock_says}
 host_shared : (print : List ℕ → ℕ) (h g : List ℕ) (port : Option ℕ) → print h ≡ print g
     → fingerprint print (means.ntp_host h port) ≡ fingerprint print (means.ntp_host g port)
 unfolding fingerprint
-host_shared print h g none e = simp e
-host_shared print h g (some n) e = simp e
+host_shared print h g None e = simp e
+host_shared print h g (Some n) e = simp e
 
 pub fingerprint_shared : FingerprintShared
 fingerprint_shared hosts print share m n (equal e) = ap (fingerprint print) e
@@ -38,15 +38,15 @@ flat_print print x = columns (print x.head) x.name x.kind x.form x.first x.secon
 module _ (print : List ℕ → ℕ) where
   server_print_lem : (f : ℕ) (n : List ℕ) (s : Server) → flat_print print (server_says f n s) ≡ server_print (print []) f n s
   server_print_lem f n means.traceable = refl
-  server_print_lem f n (means.gmid g none) = refl
-  server_print_lem f n (means.gmid g (some (means.name s))) = refl
-  server_print_lem f n (means.gmid g (some (means.number d))) = refl
+  server_print_lem f n (means.gmid g None) = refl
+  server_print_lem f n (means.gmid g (Some (means.name s))) = refl
+  server_print_lem f n (means.gmid g (Some (means.number d))) = refl
 
   pub flat_print_lem : (m : RefMeaning) → flat_print print (clock_says m) ≡ fingerprint print m
-  unfolding clock_says fingerprint
+  unfolding fingerprint
   flat_print_lem means.ntp_traceable = refl
-  flat_print_lem (means.ntp_host h none) = refl
-  flat_print_lem (means.ntp_host h (some n)) = refl
+  flat_print_lem (means.ntp_host h None) = refl
+  flat_print_lem (means.ntp_host h (Some n)) = refl
   flat_print_lem (means.ptp means.ieee1588_2002 s) = server_print_lem 0 [] s
   flat_print_lem (means.ptp means.ieee1588_2008 s) = server_print_lem 1 [] s
   flat_print_lem (means.ptp means.ieee802_1as_2011 s) = server_print_lem 2 [] s
@@ -57,8 +57,8 @@ module _ (print : List ℕ → ℕ) where
   flat_print_lem means.local = refl
   flat_print_lem means.private_standard = refl
   flat_print_lem means.private_traceable = refl
-  flat_print_lem (means.ref_ext n none) = refl
-  flat_print_lem (means.ref_ext n (some v)) = refl
+  flat_print_lem (means.ref_ext n None) = refl
+  flat_print_lem (means.ref_ext n (Some v)) = refl
 
 mixed_small : (n k : ℕ) → mixed n k < 4294967296
 unfolding mixed

@@ -1,6 +1,5 @@
 -- When two ts-refclk records name one clock: they mean the same, but that hosts may be two names of one server. How hosts are compared is a parameter.
-use Rattle.std.specs.Prelude.{ℕ, ◌≡◌, List, Bool, true}
-use Rattle.std.proofs.Math.Option.{Option}
+use Rattle.std.specs.Prelude.{ℕ, ◌≡◌, List, Bool, true, Option}
 use Rattle.meaning.specs.Meaning.{RefMeaning, ntp_host}
 use Rattle.hosts.specs.Server.{one_server}
 

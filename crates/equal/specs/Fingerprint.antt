@@ -1,7 +1,6 @@
 -- A number that records of one clock share, so that most others are told apart by it alone. Nothing rests on which number it is but the time of a
 -- search. `proofs/Shared.antt` proves the statements.
-use Rattle.std.specs.Prelude.{ℕ, suc, ◌/◌, ◌<◌, ◌≡◌, List, [], true}
-use Rattle.std.proofs.Math.Option.{none, some}
+use Rattle.std.specs.Prelude.{ℕ, suc, ◌/◌, ◌<◌, ◌≡◌, List, [], true, Some, None}
 use Rattle.hostprint.specs.Mixed.{mixed, mixed_text}
 use Rattle.hostprint.specs.Server.{print_of_host}
 use Rattle.meaning.specs.Meaning.{Server, RefMeaning}
@@ -25,15 +24,15 @@ columns host name kind form first second third value =
 -- PTP, of a version and its own name: traceable; a GMID alone; with a domain's name; with a domain's number
 abbrev pub server_print : ℕ → ℕ → List ℕ → Server → ℕ
 server_print host version own means.traceable = columns host own 2 version 0 0 0 []
-server_print host version own (means.gmid g none) = columns host own 2 version 1 g 0 []
-server_print host version own (means.gmid g (some (means.name s))) = columns host own 2 version 2 g 0 s
-server_print host version own (means.gmid g (some (means.number d))) = columns host own 2 version 3 g d []
+server_print host version own (means.gmid g None) = columns host own 2 version 1 g 0 []
+server_print host version own (means.gmid g (Some (means.name s))) = columns host own 2 version 2 g 0 s
+server_print host version own (means.gmid g (Some (means.number d))) = columns host own 2 version 3 g d []
 
 -- how hosts are printed is a parameter
 unfoldable pub fingerprint : (List ℕ → ℕ) → RefMeaning → ℕ
 fingerprint print means.ntp_traceable = columns (print []) [] 0 0 0 0 0 []
-fingerprint print (means.ntp_host h none) = columns (print h) [] 1 0 0 0 0 []
-fingerprint print (means.ntp_host h (some port)) = columns (print h) [] 1 0 (suc port) 0 0 []
+fingerprint print (means.ntp_host h None) = columns (print h) [] 1 0 0 0 0 []
+fingerprint print (means.ntp_host h (Some port)) = columns (print h) [] 1 0 (suc port) 0 0 []
 fingerprint print (means.ptp means.ieee1588_2002 s) = server_print (print []) 0 [] s
 fingerprint print (means.ptp means.ieee1588_2008 s) = server_print (print []) 1 [] s
 fingerprint print (means.ptp means.ieee802_1as_2011 s) = server_print (print []) 2 [] s
@@ -44,8 +43,8 @@ fingerprint print means.glonass = columns (print []) [] 5 0 0 0 0 []
 fingerprint print means.local = columns (print []) [] 6 0 0 0 0 []
 fingerprint print means.private_standard = columns (print []) [] 7 0 0 0 0 []
 fingerprint print means.private_traceable = columns (print []) [] 8 0 0 0 0 []
-fingerprint print (means.ref_ext name none) = columns (print []) name 9 0 0 0 0 []
-fingerprint print (means.ref_ext name (some value)) = columns (print []) name 9 0 1 0 0 value
+fingerprint print (means.ref_ext name None) = columns (print []) name 9 0 0 0 0 []
+fingerprint print (means.ref_ext name (Some value)) = columns (print []) name 9 0 1 0 0 value
 
 -- what means one clock shares it, where hosts that are alike share their print
 abbrev pub FingerprintShared : Type 0

@@ -5,12 +5,12 @@
 mod parts;
 mod prints;
 
-ghost use Rattle.std.specs.Prelude.{◌≡◌, []};
+ghost use Rattle.std.specs.Prelude.{◌≡◌};
 ghost use Rattle.text.specs.Place.{bytes_at};
 ghost use Rattle.meaning.specs.Meaning.{ref_meaning, media_meaning};
 ghost use Rattle.equal.specs.Decides.{Decides};
 ghost use Rattle.equal.specs.Alike.{hosts_alike, OneClock};
-ghost use Rattle.equal.specs.Private.Flat.{same_numbers, same_behind};
+ghost use Rattle.equal.specs.Private.Flat.{same_behind};
 ghost use Rattle.equal.specs.Private.Parts.{over};
 
 use clock::ReferenceClock;
@@ -32,36 +32,13 @@ fn hosts_at(v: &[u8], p: Place, w: &[u8], q: Place) -> bool
     hosts_alike(text::part(v, p), text::part(w, q))
 }
 
-// The numbers are the same over every value.
-fn equal_numbers(x: Parts, y: Parts) -> bool
-    ensures { result ≡ same_numbers (over [] x) (over [] y) }
-{
-    if x.kind != y.kind {
-        return false;
-    }
-    if x.form != y.form {
-        return false;
-    }
-    if x.first != y.first {
-        return false;
-    }
-    if x.second != y.second {
-        return false;
-    }
-    x.third == y.third
-}
-
 // All but the head.
 fn equal_behind(v: &[u8], x: Parts, w: &[u8], y: Parts) -> bool
     ensures { result ≡ same_behind (over v.now x) (over w.now y) }
 {
-    if !equal_numbers(x, y) {
-        return false;
-    }
-    if !text::equal_parts(v, x.name, w, y.name) {
-        return false;
-    }
-    text::equal_parts(v, x.value, w, y.value)
+    x.numbers == y.numbers
+        && text::equal_parts(v, x.name, w, y.name)
+        && text::equal_parts(v, x.value, w, y.value)
 }
 
 // Whether two ts-refclk records are equal.
@@ -70,10 +47,7 @@ pub fn equal_reference_clocks(v: &[u8], c: ReferenceClock, w: &[u8], d: Referenc
 {
     let x = parts::clock_parts(c);
     let y = parts::clock_parts(d);
-    if !text::equal_parts(v, x.head, w, y.head) {
-        return false;
-    }
-    equal_behind(v, x, w, y)
+    text::equal_parts(v, x.head, w, y.head) && equal_behind(v, x, w, y)
 }
 
 // Whether two ts-refclk records name the same clock: equal, but for hosts that are two names of one server.
@@ -82,10 +56,7 @@ pub fn same_reference_clocks(v: &[u8], c: ReferenceClock, w: &[u8], d: Reference
 {
     let x = parts::clock_parts(c);
     let y = parts::clock_parts(d);
-    if !hosts_at(v, x.head, w, y.head) {
-        return false;
-    }
-    equal_behind(v, x, w, y)
+    hosts_at(v, x.head, w, y.head) && equal_behind(v, x, w, y)
 }
 
 // Whether two mediaclk records are equal.
@@ -99,8 +70,5 @@ pub fn equal_media_clock_sources(
 {
     let x = parts::source_parts(m);
     let y = parts::source_parts(n);
-    if !text::equal_parts(v, x.head, w, y.head) {
-        return false;
-    }
-    equal_behind(v, x, w, y)
+    text::equal_parts(v, x.head, w, y.head) && equal_behind(v, x, w, y)
 }

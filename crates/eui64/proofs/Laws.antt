@@ -1,4 +1,5 @@
 -- Laws of the definitions, one for each way out of this crate's functions. Assumes nothing.
+use Rattle.std.specs.Prelude.{Result, Option, Some, None, Ok}
 use Prim.Native.Nat.{ℕ, suc, ◌+◌, ◌*◌, ◌^◌, ◌≤◌, ◌<◌}
 use mathlib.Core.Path.{◌≡◌, sym, ◌∙◌, ap, refl}
 use mathlib.Core.List.{List, [], ◌∷◌}
@@ -11,18 +12,15 @@ use lib.ListN.{length, take, drop, get_or, length-drop}
 use lib.Seq.{get_or-drop, get_or-take, drop-drop}
 use mir.Val.{Fits}
 use mir.Syntax.{w64}
-use borrow.Author.Tests.{eq-eqb, ne_eqb, lt-ltb, le-ltb, ltb-true, le-leb, lt-leb, leb-true, eqb-true, eqb-false, not-true, not-false}
+use borrow.Author.Tests.{eq-eqb, ne_eqb, lt-ltb, le-ltb, ltb-true, le-leb, lt-leb, leb-true, eqb-true, eqb-false}
 use Rattle.text.specs.Find.{before}
 use Rattle.text.proofs.Bools.{by_bool, clash, both_ways, and_left, and_right}
 use Rattle.text.proofs.Left.{rest, rest_is}
 use Rattle.text.proofs.Cuts.{before_length, before_here, before_later, before_end}
 use Rattle.number.specs.Hex.{hex_digit}
-use Rattle.eui64.specs.declared.Eui64Read.{Eui64Read}
-use Rattle.eui64.specs.declared.Eui64Read.TheVariants.{Id}
 use Rattle.eui64.specs.declared.BrokenRule.TheVariants.{Length, SegmentLength, SegmentDigits}
-use Rattle.eui64.specs.declared.Segment.{Segment}
-use Rattle.eui64.specs.declared.Segment.TheVariants.{Byte, NotHex}
 use Rattle.eui64.specs.Eui64.{refused, cut_at_each, high_digit, segment_of, with_byte, segments_of, eui64_of}
+use Rattle.eui64.specs.declared.Fault.{Fault}
 
 -- `high_digit`
 module _ (b : ℕ) where
@@ -36,21 +34,21 @@ module _ (b : ℕ) where
 
 -- `read_segment`
 module _ (a b high : ℕ) (eh : high ≡ high_digit a) where
-  pub segment_high : 16 ≤ high → NotHex ≡ segment_of a b
+  pub segment_high : 16 ≤ high → None ≡ segment_of a b
   unfolding segment_of
   segment_high h = simp (← eh, le-ltb _ _ h)
 
   module _ (h : high < 16) (low : ℕ) (el : low ≡ hex_digit b) where
-    pub segment_low : 16 ≤ low → NotHex ≡ segment_of a b
+    pub segment_low : 16 ≤ low → None ≡ segment_of a b
     unfolding segment_of
     segment_low k = simp (← eh, ← el, le-ltb _ _ k, and-false)
 
-    pub segment_both : low < 16 → Byte (high * 16 + low) ≡ segment_of a b
+    pub segment_both : low < 16 → Some (high * 16 + low) ≡ segment_of a b
     unfolding segment_of
     segment_both k = simp (← eh, ← el, lt-ltb _ _ h, lt-ltb _ _ k)
 
 -- a segment is a byte
-pub segment_small : (a b x : ℕ) → Byte x ≡ segment_of a b → x < 256
+pub segment_small : (a b x : ℕ) → Some x ≡ segment_of a b → x < 256
 unfolding segment_of
 segment_small a b x e =
     by_bool (ltb (high_digit a) 16 && ltb (hex_digit b) 16)
@@ -113,7 +111,7 @@ pub record Inv (s : List ℕ) (id done : ℕ) : Type 0 where
   pub small : id < 256 ^ done
   pub so_far : eui64_of s ≡ segments_of (done * 3) id (segments_from (done * 3) s)
 
-pub eui_length : (s : List ℕ) (r : Eui64Read) → (length s ≡ 23 → ⊥) → r ≡ refused Length 0 (length s) → r ≡ eui64_of s
+pub eui_length : (s : List ℕ) (r : Result ℕ Fault) → (length s ≡ 23 → ⊥) → r ≡ refused Length 0 (length s) → r ≡ eui64_of s
 unfolding eui64_of
 eui_length s r h e = simp (ne_eqb (length s) 23 h, e)
 
@@ -128,7 +126,7 @@ eui_start s h =
     }
 
 module _ {s : List ℕ} {id done : ℕ} (inv : Inv s id done) where
-  pub eui_end : 8 ≤ done → Id id ≡ eui64_of s
+  pub eui_end : 8 ≤ done → Ok id ≡ eui64_of s
   unfolding segments_from segments_of
   eui_end h = sym (inv.so_far ∙ simp (lt-leb (done * 3) (length s) (omega (arith, inv.long, inv.within))))
 
@@ -162,7 +160,7 @@ module _ {s : List ℕ} {id done : ℕ} (inv : Inv s id done) (h : done < 8) whe
         (λ e. lt-ltb len (length (drop at s)) (omega (arith, leb-true (at + (len + 1)) (length s) e))))))
 
   module _ (t : Bool) (e : t ≡ eqb (before 45 (drop (done * 3) s)) 2) where
-    pub not_two : t ≡ false → (len : ℕ) → len ≡ before 45 (rest (done * 3) s) → (r : Eui64Read) → r ≡ refused SegmentLength (done * 3) len
+    pub not_two : t ≡ false → (len : ℕ) → len ≡ before 45 (rest (done * 3) s) → (r : Result ℕ Fault) → r ≡ refused SegmentLength (done * 3) len
         → r ≡ eui64_of s
     unfolding segments_of
     not_two f len el r er =
@@ -170,7 +168,7 @@ module _ {s : List ℕ} {id done : ℕ} (inv : Inv s id done) (h : done < 8) whe
         let k : eqb len 2 ≡ false = rw i at (sym e ∙ f) in
         er ∙ sym (inv.so_far ∙ rw (turn len i) (simp (segment_len len i, k)))
 
-    module _ (f : t ≡ true) (g : Segment) (eg : g ≡ segment_of (get_or s (done * 3) 0) (get_or s (done * 3 + 1) 0)) where
+    module _ (f : t ≡ true) (g : Option ℕ) (eg : g ≡ segment_of (get_or s (done * 3) 0) (get_or s (done * 3 + 1) 0)) where
       two : before 45 (drop (done * 3) s) ≡ 2
       two = eqb-true (before 45 (drop (done * 3) s)) 2 (sym e ∙ f)
 
@@ -185,10 +183,10 @@ module _ {s : List ℕ} {id done : ℕ} (inv : Inv s id done) (h : done < 8) whe
       unfolding segments_of
       one = rw (turn 2 two) (simp (segment_len 2 two, bytes))
 
-      pub two_digits : g ≡ NotHex → (r : Eui64Read) → r ≡ refused SegmentDigits (done * 3) 2 → r ≡ eui64_of s
+      pub two_digits : g ≡ None → (r : Result ℕ Fault) → r ≡ refused SegmentDigits (done * 3) 2 → r ≡ eui64_of s
       two_digits k r er = er ∙ sym (inv.so_far ∙ one ∙ simp k)
 
-      pub two_next : (x : ℕ) → g ≡ Byte x → Inv s (id * 256 + x) (done + 1)
+      pub two_next : (x : ℕ) → g ≡ Some x → Inv s (id * 256 + x) (done + 1)
       two_next x k =
           let p : (done + 1) * 3 ≡ done * 3 + 3 = omega arith in
           record {
@@ -198,12 +196,10 @@ module _ {s : List ℕ} {id done : ℕ} (inv : Inv s id done) (h : done < 8) whe
             so_far = inv.so_far ∙ one ∙ simp (k, p);
           }
 
-      pub two_id : (x : ℕ) → g ≡ Byte x → Fits w64 (id * 256 + x)
+      pub two_id : (x : ℕ) → g ≡ Some x → Fits w64 (id * 256 + x)
       two_id x k = record { fits = omega (arith, below_7, segment_small _ _ x (sym k ∙ eg)) }
 
 pub ruleset laws = (
-  not-true,
-  not-false,
   high_plus,
   high_hex,
   segment_high,
@@ -218,8 +214,6 @@ pub ruleset laws = (
   eui_start,
   eui_end,
   eui_shifted,
-  not_two,
   two_digits,
-  two_next,
   two_id,
 )

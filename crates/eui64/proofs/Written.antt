@@ -1,5 +1,6 @@
 -- What a written EUI-64 is: 23 bytes with no colon among them, read back as the number. And what a number that was read tells of its text,
 -- and that a fault lies inside it. Assumes nothing.
+use Rattle.std.specs.Prelude.{Option, Some, None, Ok, Err}
 use Prim.Native.Nat.{ℕ, zero, suc, ◌+◌, ◌-◌, ◌*◌, ◌^◌, ◌/◌, ◌%◌, ◌≤◌, ◌<◌}
 use mathlib.Core.Path.{◌≡◌, refl, sym, ap, ◌∙◌}
 use mathlib.Core.List.{List, [], ◌∷◌, ◌++◌, append_assoc, append-nil}
@@ -16,12 +17,9 @@ use Rattle.text.proofs.Cuts.{before_append}
 use Rattle.number.specs.Hex.{hex_digit, hex_capital}
 use Rattle.number.proofs.Laws.{hex_decimal, hex_capital_lem}
 use Rattle.text.specs.Place.{place}
-use Rattle.eui64.specs.declared.Eui64Read.TheVariants.{Id, Refused}
 use Rattle.eui64.specs.declared.Fault.{Fault}
 use Rattle.eui64.specs.declared.BrokenRule.{BrokenRule}
 use Rattle.eui64.specs.declared.BrokenRule.TheVariants.{Length, SegmentLength, SegmentDigits}
-use Rattle.eui64.specs.declared.Segment.{Segment}
-use Rattle.eui64.specs.declared.Segment.TheVariants.{Byte, NotHex}
 use Rattle.eui64.specs.Eui64.{refused, cut_at_each, high_digit, segment_of, with_byte, segments_of, eui64_of, segment_text, segments_text, eui64_text}
 use Rattle.eui64.proofs.Laws.{segment_small, cut_first_segment}
 
@@ -66,7 +64,7 @@ module _ (b : ℕ) (h : b < 256) where
   low : Capital (b % 16) (hex_capital (b % 16))
   low = capital (b % 16) (omega arith)
 
-  segment_back : segment_of (hex_capital (b / 16)) (hex_capital (b % 16)) ≡ Byte b
+  segment_back : segment_of (hex_capital (b / 16)) (hex_capital (b % 16)) ≡ Some b
   unfolding segment_of high_digit
   segment_back =
       let e : b / 16 * 16 + b % 16 ≡ b = omega arith in
@@ -115,7 +113,7 @@ pub eui_length : (id : ℕ) → length (eui64_text id) ≡ 23
 unfolding eui64_text
 eui_length id = segments_length 7 id
 
-pub eui_back : (id : ℕ) → id < 256 ^ 8 → Id id ≡ eui64_of (eui64_text id)
+pub eui_back : (id : ℕ) → id < 256 ^ 8 → Ok id ≡ eui64_of (eui64_text id)
 unfolding eui64_of eui64_text segments_of
 eui_back id h =
     sym
@@ -147,7 +145,7 @@ unfolding eui64_text
 eui_ascii id = segments_ascii 7 id
 
 -- a number that was read came from eight segments of two bytes, so it is within 64 bits
-pub eui_read_length : (s : List ℕ) (id : ℕ) → Id id ≡ eui64_of s → length s ≡ 23
+pub eui_read_length : (s : List ℕ) (id : ℕ) → Ok id ≡ eui64_of s → length s ≡ 23
 unfolding eui64_of
 eui_read_length s id h =
     by_bool (eqb (length s) 23) (λ e. eqb-true (length s) 23 e) (λ e. clash (cc (simp e at h)))
@@ -168,7 +166,7 @@ record Read (id : ℕ) (ps : List (List ℕ)) (g : ℕ) : Type 0 where
   pub even : weight ps ≡ 3 * length ps
   pub bound : g < suc id * 256 ^ length ps
 
-segments_read : (at id : ℕ) (ps : List (List ℕ)) (g : ℕ) → Id g ≡ segments_of at id ps → Read id ps g
+segments_read : (at id : ℕ) (ps : List (List ℕ)) (g : ℕ) → Ok g ≡ segments_of at id ps → Read id ps g
 unfolding segments_of weight
 segments_read at id [] g h = let k : g ≡ id = cc in record { even = refl; bound = omega arith }
 segments_read at id (p ∷ ps) g h =
@@ -178,10 +176,10 @@ segments_read at id (p ∷ ps) g h =
     (λ x. segments_read (at + 3) (id * 256 + x) ps g) (eqb-true (length p) 2 e) (simp e at h))
     (λ e. clash (cc (simp e at h)))
   where
-    go : (r : Segment) → ((x : ℕ) → Byte x ≡ r → x < 256)
-        → ((x : ℕ) → Id g ≡ segments_of (at + 3) (id * 256 + x) ps → Read (id * 256 + x) ps g) → length p ≡ 2
-        → Id g ≡ with_byte r (λ x. segments_of (at + 3) (id * 256 + x) ps) (refused SegmentDigits at 2) → Read id (p ∷ ps) g
-    go (Byte x) small more l h =
+    go : (r : Option ℕ) → ((x : ℕ) → Some x ≡ r → x < 256)
+        → ((x : ℕ) → Ok g ≡ segments_of (at + 3) (id * 256 + x) ps → Read (id * 256 + x) ps g) → length p ≡ 2
+        → Ok g ≡ with_byte r (λ x. segments_of (at + 3) (id * 256 + x) ps) (refused SegmentDigits at 2) → Read id (p ∷ ps) g
+    go (Some x) small more l h =
         let r = more x h in
         let k = small x refl in
         let a : suc (id * 256 + x) * 256 ^ length ps ≤ suc id * 256 * 256 ^ length ps = mul-le-mul_right (256 ^ length ps) (omega arith) in
@@ -189,9 +187,9 @@ segments_read at id (p ∷ ps) g h =
           even = omega (arith, r.even);
           bound = rw (pow-succ' 256 (length ps), ← mul_assoc) (omega (arith, r.bound));
         }
-    go NotHex small more l h = clash (cc)
+    go None small more l h = clash (cc)
 
-pub eui_bound : (s : List ℕ) (id : ℕ) → Id id ≡ eui64_of s → id < 256 ^ 8
+pub eui_bound : (s : List ℕ) (id : ℕ) → Ok id ≡ eui64_of s → id < 256 ^ 8
 unfolding eui64_of
 eui_bound s id h =
     let l = eui_read_length s id h in
@@ -201,10 +199,10 @@ eui_bound s id h =
 
 -- a fault of the segments lies inside their text
 module _ (f : Fault) where
-  fault_at : (broken : BrokenRule) (at n top : ℕ) → Refused f ≡ refused broken at n → at + n ≤ top → f.place.start + f.place.len ≤ top
+  fault_at : (broken : BrokenRule) (at n top : ℕ) → Err f ≡ refused broken at n → at + n ≤ top → f.place.start + f.place.len ≤ top
   fault_at broken at n top h k = let e : f ≡ record { rule = broken; place = place at n } = cc in rw e k
 
-  segments_fault : (at id : ℕ) (ps : List (List ℕ)) → Refused f ≡ segments_of at id ps → f.place.start + f.place.len < at + weight ps
+  segments_fault : (at id : ℕ) (ps : List (List ℕ)) → Err f ≡ segments_of at id ps → f.place.start + f.place.len < at + weight ps
   unfolding segments_of weight
   segments_fault at id [] h = clash (cc)
   segments_fault at id (p ∷ ps) h =
@@ -213,14 +211,14 @@ module _ (f : Fault) where
       go (segment_of (get_or p 0 0) (get_or p 1 0)) (λ x. segments_fault (at + 3) (id * 256 + x) ps) (eqb-true (length p) 2 e) (simp e at h))
       (λ e. omega (arith, fault_at SegmentLength at (length p) (at + length p) (simp e at h) (omega arith)))
     where
-      go : (r : Segment) → ((x : ℕ) → Refused f ≡ segments_of (at + 3) (id * 256 + x) ps → f.place.start + f.place.len < at + 3 + weight ps)
+      go : (r : Option ℕ) → ((x : ℕ) → Err f ≡ segments_of (at + 3) (id * 256 + x) ps → f.place.start + f.place.len < at + 3 + weight ps)
           → length p ≡ 2
-          → Refused f ≡ with_byte r (λ x. segments_of (at + 3) (id * 256 + x) ps) (refused SegmentDigits at 2)
+          → Err f ≡ with_byte r (λ x. segments_of (at + 3) (id * 256 + x) ps) (refused SegmentDigits at 2)
           → f.place.start + f.place.len < at + weight (p ∷ ps)
-      go (Byte x) more l h = omega (arith, more x h)
-      go NotHex more l h = omega (arith, fault_at SegmentDigits at 2 (at + 2) h (omega arith))
+      go (Some x) more l h = omega (arith, more x h)
+      go None more l h = omega (arith, fault_at SegmentDigits at 2 (at + 2) h (omega arith))
 
-  pub eui_fault : (s : List ℕ) → Refused f ≡ eui64_of s → f.place.start + f.place.len ≤ length s
+  pub eui_fault : (s : List ℕ) → Err f ≡ eui64_of s → f.place.start + f.place.len ≤ length s
   unfolding eui64_of
   eui_fault s h =
       by_bool (eqb (length s) 23)

@@ -1,17 +1,16 @@
 -- What the definition of an EUI-64 says of some texts.
-use Rattle.std.specs.Prelude.{refl, [], ◌∷◌}
+use Rattle.std.specs.Prelude.{refl, [], ◌∷◌, Ok}
 use Rattle.text.specs.Word.{word}
 use Rattle.text.specs.Example.{◌gives◌, Each}
 use Rattle.number.specs.Hex.{hex_digit, hex_capital}
-use Rattle.eui64.specs.declared.Eui64Read.TheVariants.{Id}
 use Rattle.eui64.specs.declared.BrokenRule.TheVariants.{Length, SegmentLength, SegmentDigits}
 use Rattle.eui64.specs.Eui64.{refused, cut_at_each, high_digit, segment_of, segments_of, eui64_of, segments_text, eui64_text}
 
 texts : Each eui64_of (
-    word "00-00-00-00-00-00-00-00" gives Id 0
-    ∷ word "FF-ff-FF-ff-FF-ff-FF-ff" gives Id 0xFFFFFFFFFFFFFFFF
-    ∷ word "39-A7-94-FF-FE-07-CB-D0" gives Id 0x39A794FFFE07CBD0
-    ∷ word "+1-00-00-00-00-00-00-0a" gives Id 0x010000000000000A
+    word "00-00-00-00-00-00-00-00" gives Ok 0
+    ∷ word "FF-ff-FF-ff-FF-ff-FF-ff" gives Ok 0xFFFFFFFFFFFFFFFF
+    ∷ word "39-A7-94-FF-FE-07-CB-D0" gives Ok 0x39A794FFFE07CBD0
+    ∷ word "+1-00-00-00-00-00-00-0a" gives Ok 0x010000000000000A
     ∷ word "" gives refused Length 0 0
     ∷ word "00-00-00-00-00-00-00-0" gives refused Length 0 22
     ∷ word "00-00-00-00-00-00-00-000" gives refused Length 0 24

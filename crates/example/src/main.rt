@@ -3,11 +3,10 @@
 
 ghost use Rattle.std.specs.Prelude.{◌≡◌, length};
 
-use clock::{ReferenceClockRead, Wrote};
-use lines::{Fed, Filling};
+use clock::WriteRefusal;
+use lines::Fed;
 use std::io;
 use std::io::Write;
-use text::Place;
 
 // How many bytes the link brings at a time.
 const FRAGMENT: usize = 16;
@@ -17,30 +16,28 @@ fn show(out: &mut impl Write, line: &[u8]) -> io::Result<()> {
     console::write_all(out, b"\n")
 }
 
-fn show_written(out: &mut impl Write, room: &[u8], wrote: Wrote) -> io::Result<()> {
-    if let Wrote::Length(len) = wrote {
-        show(out, text::part(room, Place { start: 0, len }))?;
+fn show_written(
+    out: &mut impl Write,
+    room: &[u8],
+    wrote: Result<usize, WriteRefusal>,
+) -> io::Result<()> {
+    match wrote {
+        Ok(len) => show(out, console::front(room, len)),
+        Err(_) => Ok(()),
     }
-    Ok(())
 }
 
 fn show_same(out: &mut impl Write, same: bool) -> io::Result<()> {
-    if same {
-        show(out, b"one clock")
-    } else {
-        show(out, b"two clocks")
+    match same {
+        true => show(out, b"one clock"),
+        false => show(out, b"two clocks"),
     }
 }
 
 fn show_fed(out: &mut impl Write, room: &[u8], fed: Fed) -> io::Result<()> {
-    let filling = fed.filling;
-    match filling {
-        Filling::Filled(len) => console::write_all(out, text::part(room, Place { start: 0, len })),
-        Filling::Refused(why) => {
-            console::write_all(out, b"refused with ")?;
-            console::print_decimal(out, lines::refusal_number(why) as u64)?;
-            show(out, b"")
-        }
+    match fed.filling {
+        Ok(len) => console::write_all(out, console::front(room, len)),
+        Err(why) => writeln!(out, "refused with {}", lines::refusal_number(why)),
     }
 }
 
@@ -55,7 +52,7 @@ fn call_on_values<'a>(out: &mut impl Write, value: &'a [u8], other: &'a [u8]) ->
     let mut room = [0u8; 1026];
     // What you call: begin
     // a value is read, its record written back, and two values are compared
-    let ReferenceClockRead::Accepted(clock) = refclk::read_reference_clock(value) else {
+    let Ok(clock) = refclk::read_reference_clock(value) else {
         return Ok(());
     };
     let wrote = writing::write_reference_clock(clock, value, &mut room);
@@ -69,14 +66,11 @@ fn call_on_values<'a>(out: &mut impl Write, value: &'a [u8], other: &'a [u8]) ->
 fn call_on_lines(out: &mut impl Write, text: &[u8]) -> io::Result<()> {
     let mut space = room_for_fragment();
     let room: &mut [u8] = &mut space;
-    let mut at: usize = 0;
     // Lines over a link: begin
     let mut memory = lines::open_line();
     let mut state = lines::start();
-    while at < text.len() {
-        let n = text::least(FRAGMENT, text.len() - at);
-        let fed = lines::feed(state, &mut memory, &text[at..at + n], room);
-        at += n;
+    for fragment in text.chunks(FRAGMENT) {
+        let fed = lines::feed(state, &mut memory, fragment, room);
         state = fed.state;
         show_fed(out, room, fed)?;
     }

@@ -1,2 +1,2 @@
 -- What the reader of this crate answers, in the terms of the rules.
-pub mod AsAnswer
+pub mod Parts

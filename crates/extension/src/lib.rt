@@ -7,56 +7,48 @@ ghost use Rattle.meaning.specs.Answer.{extension_of};
 ghost use Rattle.meaning.specs.Meaning.{value_means};
 ghost use Rattle.meaning.specs.Text.{value_text};
 ghost use Rattle.room.specs.Put.{Put};
-ghost use Rattle.extension.specs.AsAnswer.{extension_of_parts, extension_answer};
+ghost use Rattle.extension.specs.Parts.{extension_of_parts};
 
-use clock::{OptValue, Refusal};
+use clock::Refusal;
+use part::Part;
 use text::Place;
 
 // The parts of an extension, of which each attribute makes its own record.
 #[derive(Clone, Copy)]
 pub struct Extension {
     pub name: Place,
-    pub value: OptValue,
-}
-
-#[derive(Clone, Copy)]
-pub enum ExtensionRead {
-    Accepted(Extension),
-    Refused(Refusal),
+    pub value: Option<Place>,
 }
 
 // The name before the first `=`, the value after it. The text starts at the place `at` of the whole value, and an empty name is refused with `number`.
-pub fn read_extension(p: &[u8], at: u32, number: u8) -> ExtensionRead
-    ensures { extension_answer result ≡ extension_of extension_of_parts number at p.now }
+#[tactic(auto, using(crate::proofs::Laws::laws))]
+pub fn read_extension(p: &[u8], at: u32, number: u8) -> Result<Extension, Refusal>
+    ensures { result ≡ extension_of extension_of_parts number at p.now }
 {
-    let n = p.len();
-    let from = at as usize;
-    let i = search::find(p, b'=');
-    if i == 0 {
-        return ExtensionRead::Refused(Refusal::new(number, from, 0));
-    }
-    let name = Place {
-        start: from,
-        len: i,
+    let p = Part {
+        text: p,
+        at: at as usize,
     };
-    if i < n {
-        let d = i + 1;
-        let start = from + d;
-        let len = n - d;
-        let value = OptValue::SomeValue(Place { start, len });
-        return ExtensionRead::Accepted(Extension { name, value });
+    let (name, value) = match p.split_once(b'=') {
+        Some((name, value)) => (name, Some(value.place())),
+        None => (p, None),
+    };
+    if name.text.is_empty() {
+        return Err(name.refused(number));
     }
-    let value = OptValue::NoValue;
-    ExtensionRead::Accepted(Extension { name, value })
+    Ok(Extension {
+        name: name.place(),
+        value,
+    })
 }
 
 // `=` and the value, where there is one.
-fn put_value(room: &mut [u8], at: usize, value: &[u8], given: OptValue) -> usize
+fn put_value(room: &mut [u8], at: usize, value: &[u8], given: Option<Place>) -> usize
     ensures { Put (length value.now + 1) room.old at (value_text (value_means value.now given)) result room.new }
 {
     match given {
-        OptValue::NoValue => at,
-        OptValue::SomeValue(p) => {
+        None => at,
+        Some(p) => {
             let to = room::put_byte(room, at, b'=');
             room::put_part(room, to, value, p)
         }
@@ -69,7 +61,7 @@ pub fn put_extension(
     at: usize,
     value: &[u8],
     name: Place,
-    given: OptValue,
+    given: Option<Place>,
 ) -> usize
     ensures { Put (2 * length value.now + 1) room.old at
         (bytes_at name value.now ++ value_text (value_means value.now given)) result room.new }

@@ -2,32 +2,21 @@
 #![tactic(auto)]
 
 ghost use Rattle.std.specs.Prelude.{◌≡◌};
-ghost use Rattle.meaning.specs.Answer.{accepted, guarded};
-ghost use Rattle.guard.specs.AsAnswer.{checked_answer};
+ghost use Rattle.meaning.specs.Answer.{guarded};
 
 use clock::Refusal;
 
 // How many bytes a value may have.
 pub const MOST_VALUE_BYTES: usize = 1024;
 
-// The value passes, or the refusal.
-#[derive(Clone, Copy)]
-pub enum Checked {
-    Passed,
-    Refused(Refusal),
-}
-
 // A value over 1,024 bytes is refused, then one that is not well-formed UTF-8.
-pub fn check_value(value: &[u8]) -> Checked
-    ensures { checked_answer value.now result ≡ guarded value.now (accepted value.now) }
+#[tactic(auto, using(crate::proofs::Laws::laws))]
+pub fn check_value(value: &[u8]) -> Result<(), Refusal>
+    ensures { result ≡ guarded value.now (Ok tt) }
 {
     let n = value.len();
     if MOST_VALUE_BYTES < n {
-        let over = n - MOST_VALUE_BYTES;
-        return Checked::Refused(Refusal::new(1, MOST_VALUE_BYTES, over));
+        return Err(Refusal::new(1, MOST_VALUE_BYTES, n - MOST_VALUE_BYTES));
     }
-    match utf8::check_utf8(value) {
-        utf8::Utf8::Ill(at) => Checked::Refused(Refusal::new(2, at, 1)),
-        utf8::Utf8::Well => Checked::Passed,
-    }
+    utf8::check_utf8(value).map_err(|at| Refusal::new(2, at, 1))
 }

@@ -1,9 +1,9 @@
 -- Hosts sort into servers, and an address names no server that another name names. Assumes nothing.
+use Rattle.std.specs.Prelude.{Option, Some, None}
 use Prim.Native.Nat.{ℕ}
 use mathlib.Core.Path.{◌≡◌, refl, sym, ap, ◌∙◌}
 use mathlib.Core.Bool.{true, false}
 use mathlib.Core.List.{List}
-use mathlib.Core.Option.{Option, none, some}
 use Rattle.text.specs.Word.{same}
 use Rattle.text.proofs.Bools.{by_bool, clash}
 use Rattle.text.proofs.Cuts.{same_eq, same_refl}
@@ -14,10 +14,10 @@ use Rattle.hosts.specs.Server.{folded, same_address, alike_by, one_server}
 use Rattle.hosts.specs.Owed.{ServersSorted, AddressesApart, Named, address, name, ServerShared}
 use Rattle.hosts.proofs.Case.{caseless_address}
 
-is_no_address : (s : List ℕ) → ip_address_of s ≡ none → ip_address s ≡ false
+is_no_address : (s : List ℕ) → ip_address_of s ≡ None → ip_address s ≡ false
 is_no_address s e = (none_is_no_address s).0 e
 
-is_address : (s : List ℕ) (a : Address) → ip_address_of s ≡ some a → ip_address s ≡ true
+is_address : (s : List ℕ) (a : Address) → ip_address_of s ≡ Some a → ip_address s ≡ true
 is_address s a e = by_bool (ip_address s) (λ f. f) (λ f. clash (cc (e, (none_is_no_address s).1 f)))
 
 -- texts that are equal but for the case of their letters are both addresses or neither
@@ -40,14 +40,14 @@ module _ (s t : List ℕ) where
   named e = go (ip_address_of s) (ip_address_of t) refl refl e
     where
       go : (x y : Option Address) → ip_address_of s ≡ x → ip_address_of t ≡ y → alike_by x y (same (folded s) (folded t)) ≡ true → Named s t
-      go (some a) (some b) p q f = address a p (q ∙ ap some (sym (one_address a b f)))
-      go (some a) none p q f =
+      go (Some a) (Some b) p q f = address a p (q ∙ ap Some (sym (one_address a b f)))
+      go (Some a) None p q f =
           let k = folded_address s t (same_eq (folded s) (folded t) f) in
           clash (cc (k, is_address s a p, is_no_address t q))
-      go none (some b) p q f =
+      go None (Some b) p q f =
           let k = folded_address s t (same_eq (folded s) (folded t) f) in
           clash (cc (k, is_no_address s p, is_address t b q))
-      go none none p q f = name p q (same_eq (folded s) (folded t) f)
+      go None None p q f = name p q (same_eq (folded s) (folded t) f)
 
   is_named : Named s t → one_server s t ≡ true
   unfolding one_server
@@ -61,8 +61,8 @@ self_named : (s : List ℕ) → Named s s
 self_named s = go (ip_address_of s) refl
   where
     go : (x : Option Address) → ip_address_of s ≡ x → Named s s
-    go (some a) e = address a e e
-    go none e = name e e refl
+    go (Some a) e = address a e e
+    go None e = name e e refl
 
 back_named : (s t : List ℕ) → Named s t → Named t s
 back_named s t (address a p q) = address a q p

@@ -2,4 +2,3 @@
 pub mod Server
 pub mod Owed
 pub mod Examples
-pub mod Private

@@ -1,6 +1,5 @@
 -- What naming one server owes. `proofs/Owed.antt` proves each of these statements.
-use Rattle.std.specs.Prelude.{ℕ, ◌≡◌, ◌↔◌, List, true, false}
-use Rattle.std.proofs.Math.Option.{none, some}
+use Rattle.std.specs.Prelude.{ℕ, ◌≡◌, ◌↔◌, List, true, false, Some, None}
 use Rattle.ipaddr.specs.Address.{ip_address}
 use Rattle.ipaddr.specs.Number.{Address, ip_address_of}
 use Rattle.hosts.specs.Server.{folded, one_server}
@@ -17,8 +16,8 @@ AddressesApart = (s t : List ℕ) → ip_address s ≡ true → ip_address t ≡
 
 -- what a server has: the number of an address, and the letters of any other name
 pub data Named (s t : List ℕ) : Type 0 where
-  address : (a : Address) → ip_address_of s ≡ some a → ip_address_of t ≡ some a → Named s t
-  name : ip_address_of s ≡ none → ip_address_of t ≡ none → folded s ≡ folded t → Named s t
+  address : (a : Address) → ip_address_of s ≡ Some a → ip_address_of t ≡ Some a → Named s t
+  name : ip_address_of s ≡ None → ip_address_of t ≡ None → folded s ≡ folded t → Named s t
 
 -- two hosts name one server exactly where they share that
 abbrev pub ServerShared : Type 0

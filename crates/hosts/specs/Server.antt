@@ -1,6 +1,5 @@
 -- When two hosts name one server: addresses by family and number, other hosts with ASCII letters alike in either case.
-use Rattle.std.specs.Prelude.{ℕ, ◌+◌, Bool, false, cond, List, map}
-use Rattle.std.proofs.Math.Option.{Option, none, some}
+use Rattle.std.specs.Prelude.{ℕ, ◌+◌, Bool, false, cond, List, map, Option, Some, None}
 use Rattle.text.specs.Word.{same}
 use Rattle.number.specs.Hex.{between}
 use Rattle.ipaddr.specs.Number.{Address, four, six, ip_address_of}
@@ -21,9 +20,9 @@ same_address (six gs) (six hs) = same gs hs
 
 -- by the addresses where there are two, else by the names
 abbrev pub alike_by : Option Address → Option Address → Bool → Bool
-alike_by (some a) (some b) names = same_address a b
-alike_by (some a) none names = names
-alike_by none y names = names
+alike_by (Some a) (Some b) names = same_address a b
+alike_by (Some a) None names = names
+alike_by None y names = names
 
 unfoldable pub one_server : List ℕ → List ℕ → Bool
 one_server s t = alike_by (ip_address_of s) (ip_address_of t) (same (folded s) (folded t))

@@ -2,7 +2,6 @@
 ghost use Rattle.std.specs.Prelude.{◌≡◌, ◌&&◌};
 ghost use Rattle.meaning.specs.Inside.{inside, value_inside};
 
-use clock::OptValue;
 use text::Place;
 
 // Whether a place lies inside the value. The two are compared without a sum, which could overflow.
@@ -10,28 +9,17 @@ pub(crate) fn is_inside(value: &[u8], p: Place) -> bool
     ensures { result ≡ inside value.now p }
 {
     let n = value.len();
-    let start = p.start;
-    let len = p.len;
-    if n < start {
-        return false;
-    }
-    len <= n - start
+    p.start <= n && p.len <= n - p.start
 }
 
-fn is_value_inside(value: &[u8], given: OptValue) -> bool
+fn is_value_inside(value: &[u8], given: Option<Place>) -> bool
     ensures { result ≡ value_inside value.now given }
 {
-    match given {
-        OptValue::NoValue => true,
-        OptValue::SomeValue(p) => is_inside(value, p),
-    }
+    given.is_none_or(|p| is_inside(value, p))
 }
 
-pub(crate) fn is_extension_inside(value: &[u8], name: Place, given: OptValue) -> bool
+pub(crate) fn is_extension_inside(value: &[u8], name: Place, given: Option<Place>) -> bool
     ensures { result ≡ (inside value.now name && value_inside value.now given) }
 {
-    if !is_inside(value, name) {
-        return false;
-    }
-    is_value_inside(value, given)
+    is_inside(value, name) && is_value_inside(value, given)
 }

@@ -3,15 +3,13 @@ ghost use Rattle.std.specs.Prelude.{◌≡◌, ◌&&◌};
 ghost use Rattle.meaning.specs.Inside.{version_inside, domain_inside, opt_domain_inside, server_inside, ntp_inside, reference_clock_inside};
 
 use crate::parts;
-use clock::{NtpServerAddr, OptDomain, PtpDomain, PtpServer, PtpVersion, ReferenceClock};
+use clock::{NtpServerAddr, PtpDomain, PtpServer, PtpVersion, ReferenceClock};
 
 fn is_version_inside(value: &[u8], version: PtpVersion) -> bool
     ensures { result ≡ version_inside value.now version }
 {
     match version {
-        PtpVersion::Ieee1588_2002 => true,
-        PtpVersion::Ieee1588_2008 => true,
-        PtpVersion::Ieee8021As_2011 => true,
+        PtpVersion::Ieee1588_2002 | PtpVersion::Ieee1588_2008 | PtpVersion::Ieee8021As_2011 => true,
         PtpVersion::Ext(p) => parts::is_inside(value, p),
     }
 }
@@ -25,20 +23,17 @@ fn is_domain_inside(value: &[u8], domain: PtpDomain) -> bool
     }
 }
 
-fn is_opt_domain_inside(value: &[u8], domain: OptDomain) -> bool
+fn is_opt_domain_inside(value: &[u8], domain: Option<PtpDomain>) -> bool
     ensures { result ≡ opt_domain_inside value.now domain }
 {
-    match domain {
-        OptDomain::NoDomain => true,
-        OptDomain::SomeDomain(d) => is_domain_inside(value, d),
-    }
+    domain.is_none_or(|d| is_domain_inside(value, d))
 }
 
 fn is_server_inside(value: &[u8], server: PtpServer) -> bool
     ensures { result ≡ server_inside value.now server }
 {
     match server {
-        PtpServer::GmidDomain { gmid: _, domain } => is_opt_domain_inside(value, domain),
+        PtpServer::GmidDomain { domain, .. } => is_opt_domain_inside(value, domain),
         PtpServer::Traceable => true,
     }
 }
@@ -46,43 +41,30 @@ fn is_server_inside(value: &[u8], server: PtpServer) -> bool
 fn is_ptp_inside(value: &[u8], version: PtpVersion, server: PtpServer) -> bool
     ensures { result ≡ (version_inside value.now version && server_inside value.now server) }
 {
-    if !is_version_inside(value, version) {
-        return false;
-    }
-    is_server_inside(value, server)
+    is_version_inside(value, version) && is_server_inside(value, server)
 }
 
 fn is_ntp_inside(value: &[u8], server: NtpServerAddr) -> bool
     ensures { result ≡ ntp_inside value.now server }
 {
     match server {
-        NtpServerAddr::HostPort { hostname, port: _ } => parts::is_inside(value, hostname),
+        NtpServerAddr::HostPort { hostname, .. } => parts::is_inside(value, hostname),
         NtpServerAddr::Traceable => true,
     }
 }
 
+#[tactic(auto, unfolding(meaning::specs::Inside::reference_clock_inside))]
 pub fn is_clock_inside(value: &[u8], clock: ReferenceClock) -> bool
     ensures { result ≡ reference_clock_inside value.now clock }
 {
     match clock {
-        ReferenceClock::Ntp(n) => {
-            let server = n.server;
-            is_ntp_inside(value, server)
-        }
-        ReferenceClock::Ptp(p) => {
-            let version = p.version;
-            let server = p.server;
-            is_ptp_inside(value, version, server)
-        }
-        ReferenceClock::Gps => true,
-        ReferenceClock::Gal => true,
-        ReferenceClock::Glonass => true,
-        ReferenceClock::Local => true,
-        ReferenceClock::Private(_) => true,
-        ReferenceClock::Ext(e) => {
-            let name = e.name;
-            let given = e.value;
-            parts::is_extension_inside(value, name, given)
-        }
+        ReferenceClock::Ntp(n) => is_ntp_inside(value, n.server),
+        ReferenceClock::Ptp(p) => is_ptp_inside(value, p.version, p.server),
+        ReferenceClock::Gps
+        | ReferenceClock::Gal
+        | ReferenceClock::Glonass
+        | ReferenceClock::Local
+        | ReferenceClock::Private(_) => true,
+        ReferenceClock::Ext(e) => parts::is_extension_inside(value, e.name, e.value),
     }
 }

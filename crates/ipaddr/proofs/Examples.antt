@@ -1,10 +1,10 @@
 -- Texts that are addresses, and texts that are none. The grammar tries every cut of a text, which is slow to compute for many groups:
 -- `quick` cuts at the first separator alone, and is the same. Assumes nothing.
+use Rattle.std.specs.Prelude.{Option, Some, None}
 use Prim.Native.Nat.{ℕ, zero, suc, ◌-◌}
 use mathlib.Core.Path.{◌≡◌, refl, sym, ap, ◌∙◌, fun_ext}
 use mathlib.Core.Bool.{Bool, true, false, cond, ◌&&◌, ◌||◌}
 use mathlib.Core.List.{List, [], ◌∷◌, map}
-use mathlib.Core.Option.{Option, none, some}
 use lib.Dec.{eqb, ltb}
 use lib.ListN.{length, take, drop}
 use Rattle.text.specs.Find.{before_pair}
@@ -109,7 +109,7 @@ unfolding quick quick_six quick_octets quick_groups quick_form any cut before_pa
 texts = ap (λ (p : Rule). map (λ (r : Example (List ℕ) Bool). p r.given) rows) quick_is
 
 quick_number : List ℕ → Option number.Address
-quick_number s = cond (quick_octets 3 s) (some (number.four (octets_of s))) (cond (quick_six s) (some (number.six (groups_of s))) none)
+quick_number s = cond (quick_octets 3 s) (Some (number.four (octets_of s))) (cond (quick_six s) (Some (number.six (groups_of s))) None)
 
 number_quick : ip_address_of ≡ quick_number
 number_quick = fun_ext go

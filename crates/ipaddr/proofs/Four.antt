@@ -6,9 +6,9 @@ use mathlib.Core.List.{List, [], ◌∷◌}
 use native.Mathlib.Omega.{arith}
 use lib.Dec.{leb, ltb, eqb}
 use lib.ListN.{length, take, drop, get_or, length-drop}
-use lib.Seq.{drop-drop}
-use borrow.Author.Tests.{le-leb, lt-leb, ne_eqb, lt-ltb, le-ltb}
+use borrow.Author.Tests.{le-leb, leb-true, eqb-true, lt-ltb, le-ltb}
 use Rattle.text.specs.Find.{before}
+use Rattle.text.proofs.Bools.{by_bool, and_left, and_right, both, or_elim}
 use Rattle.text.proofs.Left.{rest, rest_is}
 use Rattle.number.specs.Hex.{between}
 use Rattle.abnf.specs.Rule.{Rule, nothing, range, letter, ◌or◌, ◌then◌, times}
@@ -16,14 +16,6 @@ use Rattle.abnf.proofs.Rules.{Has, range_then, range_then_nil, byte_is, cut_then
 use Rattle.abnf.proofs.Places.{then_at}
 use Rattle.abnf.proofs.Free.{Lacks, free_laws}
 use Rattle.ipaddr.specs.Address.{dec_octet, ipv4address}
-
--- `is_between`
-module _ (a z b : ℕ) where
-  pub between_below : b < a → false ≡ between a z b
-  between_below h = sym (rw (lt-leb a b h))
-
-  pub between_from : a ≤ b → leb b z ≡ between a z b
-  between_from h = sym (rw (le-leb a b h))
 
 -- an octet of each length
 pub dec_1 : (x : ℕ) → dec_octet (x ∷ []) ≡ between 48 57 x
@@ -52,7 +44,29 @@ pub dec_0 : dec_octet [] ≡ false
 unfolding dec_octet ◌or◌ range times nothing
 dec_0 = simp range_then_nil
 
--- `is_large_octet`
+-- `is_dec_octet`: a byte of a range
+in_range : (a z b : ℕ) → a ≤ b → b < z + 1 → between a z b ≡ true
+in_range a z b h k = rw (le-leb a b h) (le-leb b z (omega arith))
+
+record InRange (a z b : ℕ) : Type 0 where
+  low : a ≤ b
+  high : b < z + 1
+
+range_of : (a z b : ℕ) → between a z b ≡ true → InRange a z b
+range_of a z b e =
+    record { low = leb-true a b (and_left (leb a b) (leb b z) e); high = omega (arith, leb-true b z (and_right (leb a b) (leb b z) e)) }
+
+pub octet_1 : (s : List ℕ) → length s ≡ 1 → 48 ≤ get_or s 0 0 → get_or s 0 0 < 58 → true ≡ dec_octet s
+octet_1 [] h l m = absurd (omega arith)
+octet_1 (x ∷ []) h l m = sym (dec_1 x ∙ in_range 48 57 x l m)
+octet_1 (x ∷ y ∷ s) h l m = absurd (omega arith)
+
+pub octet_2 : (s : List ℕ) → length s ≡ 2 → 49 ≤ get_or s 0 0 → get_or s 0 0 < 58 → 48 ≤ get_or s 1 0 → get_or s 1 0 < 58 → true ≡ dec_octet s
+octet_2 [] h l m n o = absurd (omega arith)
+octet_2 (x ∷ []) h l m n o = absurd (omega arith)
+octet_2 (x ∷ y ∷ []) h l m n o = sym (dec_2 x y ∙ both (in_range 49 57 x l m) (in_range 48 57 y n o))
+octet_2 (x ∷ y ∷ z ∷ s) h l m n o = absurd (omega arith)
+
 three : (s : List ℕ) → length s ≡ 3 → dec_octet s ≡ large (get_or s 0 0) (get_or s 1 0) (get_or s 2 0)
 three [] h = absurd (omega arith)
 three (x ∷ []) h = absurd (omega arith)
@@ -60,54 +74,61 @@ three (x ∷ y ∷ []) h = absurd (omega arith)
 three (x ∷ y ∷ z ∷ []) h = dec_3 x y z
 three (x ∷ y ∷ z ∷ w ∷ s) h = absurd (omega arith)
 
-pub large_3 : (s : List ℕ) → length s ≡ 3 → (get_or s 0 0 ≡ 49 → ⊥) → (get_or s 0 0 ≡ 50 → ⊥) → false ≡ dec_octet s
-large_3 s h one two = sym (three s h ∙ rw (ne_eqb (get_or s 0 0) 49 one, ne_eqb (get_or s 0 0) 50 two))
+module _ (s : List ℕ) (h : length s ≡ 3) (low : 48 ≤ get_or s 2 0) where
+  pub octet_100 : get_or s 0 0 ≡ 49 → 48 ≤ get_or s 1 0 → get_or s 1 0 < 58 → get_or s 2 0 < 58 → true ≡ dec_octet s
+  octet_100 one l m high =
+      sym (three s h ∙ rw (one, in_range 48 57 (get_or s 1 0) l m, in_range 48 57 (get_or s 2 0) low high))
 
-module _ (s : List ℕ) (h : length s ≡ 3) (r t : Bool) where
-  module _ (one : get_or s 0 0 ≡ 49) (et : t ≡ between 48 57 (get_or s 1 0)) where
-    pub large_1 : t ≡ true → r ≡ between 48 57 (get_or s 2 0) → r ≡ dec_octet s
-    large_1 e er = er ∙ sym (three s h ∙ rw (one, ← et, e) (or-false (between 48 57 (get_or s 2 0))))
+  pub octet_200 : get_or s 0 0 ≡ 50 → 48 ≤ get_or s 1 0 → get_or s 1 0 < 53 → get_or s 2 0 < 58 → true ≡ dec_octet s
+  octet_200 two l m high =
+      sym (three s h ∙ rw (two, in_range 48 52 (get_or s 1 0) l m, in_range 48 57 (get_or s 2 0) low high))
 
-    pub large_1_not : t ≡ false → false ≡ dec_octet s
-    large_1_not e = sym (three s h ∙ rw (one, ← et, e))
+  pub octet_250 : get_or s 0 0 ≡ 50 → get_or s 1 0 ≡ 53 → get_or s 2 0 < 54 → true ≡ dec_octet s
+  octet_250 two five high = sym (three s h ∙ rw (two, five, in_range 48 53 (get_or s 2 0) low high))
 
-  module _ (two : get_or s 0 0 ≡ 50) where
-    pub large_25 : get_or s 1 0 ≡ 53 → r ≡ between 48 53 (get_or s 2 0) → r ≡ dec_octet s
-    large_25 five er = er ∙ sym (three s h ∙ rw (two, five))
+-- any other text
+pub octet_none : (s : List ℕ)
+    → (length s ≡ 1 → 48 ≤ get_or s 0 0 → get_or s 0 0 < 58 → ⊥)
+    → (length s ≡ 2 → 49 ≤ get_or s 0 0 → get_or s 0 0 < 58 → 48 ≤ get_or s 1 0 → get_or s 1 0 < 58 → ⊥)
+    → (length s ≡ 3 → get_or s 0 0 ≡ 49 → 48 ≤ get_or s 1 0 → get_or s 1 0 < 58 → 48 ≤ get_or s 2 0 → get_or s 2 0 < 58 → ⊥)
+    → (length s ≡ 3 → get_or s 0 0 ≡ 50 → 48 ≤ get_or s 1 0 → get_or s 1 0 < 53 → 48 ≤ get_or s 2 0 → get_or s 2 0 < 58 → ⊥)
+    → (length s ≡ 3 → get_or s 0 0 ≡ 50 → get_or s 1 0 ≡ 53 → 48 ≤ get_or s 2 0 → get_or s 2 0 < 54 → ⊥)
+    → false ≡ dec_octet s
+octet_none [] f g h i j = sym dec_0
+octet_none (x ∷ []) f g h i j =
+    by_bool (between 48 57 x) (λ e. let r = range_of 48 57 x e in absurd (f refl r.low r.high)) (λ e. sym (dec_1 x ∙ e))
+octet_none (x ∷ y ∷ []) f g h i j =
+    by_bool (between 49 57 x && between 48 57 y)
+    (λ e.
+    let r = range_of 49 57 x (and_left (between 49 57 x) (between 48 57 y) e) in
+    let t = range_of 48 57 y (and_right (between 49 57 x) (between 48 57 y) e) in
+    absurd (g refl r.low r.high t.low t.high))
+    (λ e. sym (dec_2 x y ∙ e))
+octet_none (x ∷ y ∷ z ∷ []) f g h i j =
+    by_bool (large x y z)
+    (or_elim _ _
+    (λ e.
+    let d = and_right (eqb x 49) (between 48 57 y && between 48 57 z) e in
+    let r = range_of 48 57 y (and_left (between 48 57 y) (between 48 57 z) d) in
+    let t = range_of 48 57 z (and_right (between 48 57 y) (between 48 57 z) d) in
+    absurd (h refl (eqb-true x 49 (and_left (eqb x 49) (between 48 57 y && between 48 57 z) e)) r.low r.high t.low t.high))
+    (or_elim _ _
+    (λ e.
+    let d = and_right (eqb x 50) (between 48 52 y && between 48 57 z) e in
+    let r = range_of 48 52 y (and_left (between 48 52 y) (between 48 57 z) d) in
+    let t = range_of 48 57 z (and_right (between 48 52 y) (between 48 57 z) d) in
+    absurd (i refl (eqb-true x 50 (and_left (eqb x 50) (between 48 52 y && between 48 57 z) e)) r.low r.high t.low t.high))
+    (λ e.
+    let d = and_right (eqb x 50) (eqb y 53 && between 48 53 z) e in
+    let t = range_of 48 53 z (and_right (eqb y 53) (between 48 53 z) d) in
+    absurd (
+    j refl (eqb-true x 50 (and_left (eqb x 50) (eqb y 53 && between 48 53 z) e)) (eqb-true y 53 (and_left (eqb y 53) (between 48 53 z) d)) t.low
+    t.high
+    ))))
+    (λ e. sym (dec_3 x y z ∙ e))
+octet_none (x ∷ y ∷ z ∷ w ∷ s) f g h i j = sym (dec_4 x y z w s)
 
-    module _ (five : get_or s 1 0 ≡ 53 → ⊥) (et : t ≡ between 48 52 (get_or s 1 0)) where
-      pub large_2 : t ≡ true → r ≡ between 48 57 (get_or s 2 0) → r ≡ dec_octet s
-      large_2 e er =
-          er ∙ sym (three s h ∙ rw (two, ← et, e, ne_eqb (get_or s 1 0) 53 five) (or-false (between 48 57 (get_or s 2 0))))
-
-      pub large_2_not : t ≡ false → false ≡ dec_octet s
-      large_2_not e = sym (three s h ∙ rw (two, ← et, e, ne_eqb (get_or s 1 0) 53 five))
-
--- `is_dec_octet`
-pub octet_1 : (s : List ℕ) (r : Bool) → length s ≡ 1 → r ≡ between 48 57 (get_or s 0 0) → r ≡ dec_octet s
-octet_1 [] r h e = absurd (omega arith)
-octet_1 (x ∷ []) r h e = e ∙ sym (dec_1 x)
-octet_1 (x ∷ y ∷ s) r h e = absurd (omega arith)
-
-two : (s : List ℕ) → length s ≡ 2 → dec_octet s ≡ between 49 57 (get_or s 0 0) && between 48 57 (get_or s 1 0)
-two [] h = absurd (omega arith)
-two (x ∷ []) h = absurd (omega arith)
-two (x ∷ y ∷ []) h = dec_2 x y
-two (x ∷ y ∷ z ∷ s) h = absurd (omega arith)
-
-module _ (s : List ℕ) (h : length s ≡ 2) (r t : Bool) (et : t ≡ between 49 57 (get_or s 0 0)) where
-  pub octet_2 : t ≡ true → r ≡ between 48 57 (get_or s 1 0) → r ≡ dec_octet s
-  octet_2 e er = er ∙ sym (two s h ∙ rw (← et, e))
-
-  pub octet_2_not : t ≡ false → false ≡ dec_octet s
-  octet_2_not e = sym (two s h ∙ rw (← et, e))
-
-pub octet_none : (s : List ℕ) → (length s ≡ 1 → ⊥) → (length s ≡ 2 → ⊥) → (length s ≡ 3 → ⊥) → false ≡ dec_octet s
-octet_none [] f g h = sym dec_0
-octet_none (x ∷ []) f g h = absurd (f refl)
-octet_none (x ∷ y ∷ []) f g h = absurd (g refl)
-octet_none (x ∷ y ∷ z ∷ []) f g h = absurd (h refl)
-octet_none (x ∷ y ∷ z ∷ w ∷ s) f g h = sym (dec_4 x y z w s)
+pub ruleset octet_laws = (octet_1, octet_2, octet_100, octet_200, octet_250, octet_none)
 
 -- m octets with a dot behind each, and one more
 unfoldable pub octets : ℕ → Rule
@@ -122,12 +143,12 @@ pub octet_lacks : Lacks 46 dec_octet
 unfolding dec_octet
 octet_lacks = search free_laws depth 20
 
--- `is_ipv4_address`: what is left from at on is to be an octet more than dots
-pub record Four (s : List ℕ) (dots at : ℕ) : Type 0 where
-  pub within : at ≤ length s
-  pub so_far : octets dots (drop at s) ≡ ipv4address s
+-- `is_ipv4_address`: what is left is to be an octet more than dots are to come
+pub record Four (s : List ℕ) (done : ℕ) (left : List ℕ) : Type 0 where
+  pub within : length left ≤ length s
+  pub so_far : octets (3 - done) left ≡ ipv4address s
 
-pub four_start : (s : List ℕ) → Four s 3 0
+pub four_start : (s : List ℕ) → Four s 0 s
 four_start s = record { within = omega arith; so_far = four_octets s }
 
 pub octets_at : (m : ℕ) (t : List ℕ)
@@ -135,40 +156,30 @@ pub octets_at : (m : ℕ) (t : List ℕ)
 unfolding octets
 octets_at m t = then_at 46 dec_octet (octets m) octet_lacks.free t
 
-module _ {s : List ℕ} {dots at : ℕ} (inv : Four s dots at) where
-  module _ (n : ℕ) (some : 0 < dots) (en : n ≡ before 46 (rest at s)) where
-    step : ipv4address s ≡ ltb n (length s - at) && (dec_octet (take n (drop at s)) && octets (dots - 1) (drop (at + n + 1) s))
-    step =
-        let d : suc (dots - 1) ≡ dots = omega arith in
-        let k : at + n + 1 ≡ at + suc n = omega arith in
-        let m : n ≡ before 46 (drop at s) = en ∙ ap (before 46) (rest_is at s) in
-        sym inv.so_far
-        ∙ ap (λ (m : ℕ). octets m (drop at s)) (sym d)
-        ∙ octets_at (dots - 1) (drop at s)
-        ∙ rw (← m, k, length-drop, drop-drop)
+module _ (s left : List ℕ) (n : ℕ) (en : n ≡ before 46 left) (done : ℕ) (inv : Four s done left) (some : done < 3) where
+  step : ipv4address s ≡ ltb n (length left) && (dec_octet (take n left) && octets (3 - (done + 1)) (drop (n + 1) left))
+  step =
+      let d : suc (3 - (done + 1)) ≡ 3 - done = omega arith in
+      let k : suc n ≡ n + 1 = omega arith in
+      sym inv.so_far ∙ ap (λ (m : ℕ). octets m left) (sym d) ∙ octets_at (3 - (done + 1)) left ∙ rw (← en, k)
 
-    pub four_none : length s - at ≤ n → false ≡ ipv4address s
-    four_none h = sym (step ∙ rw (le-ltb n (length s - at) h))
+  pub four_none : length left ≤ n → false ≡ ipv4address s
+  four_none h = sym (step ∙ rw (le-ltb n (length left) h))
 
-    module _ (h : n < length s - at) (r : Bool) (er : r ≡ dec_octet (take (at + n - at) (drop at s))) where
-      front : r ≡ dec_octet (take n (drop at s))
-      front = let e : at + n - at ≡ n = omega arith in rw e at er
+  module _ (h : n < length left) (r : Bool) (er : r ≡ dec_octet (take n left)) where
+    pub four_bad : r ≡ false → false ≡ ipv4address s
+    four_bad e = sym (step ∙ rw (lt-ltb n (length left) h, ← er, e))
 
-      pub four_bad : r ≡ false → false ≡ ipv4address s
-      four_bad e = sym (step ∙ rw (lt-ltb n (length s - at) h, ← front, e))
+    pub four_next : r ≡ true → Four s (done + 1) (rest (n + 1) left)
+    four_next e =
+        record {
+          within = omega (arith, inv.within, ap length (rest_is (n + 1) left), length-drop (n + 1) left);
+          so_far = ap (octets (3 - (done + 1))) (rest_is (n + 1) left) ∙ sym (step ∙ rw (lt-ltb n (length left) h, ← er, e));
+        }
 
-      pub four_next : r ≡ true → Four s (dots - 1) (at + n + 1)
-      four_next e =
-          record {
-            within = omega arith;
-            so_far = sym (step ∙ rw (lt-ltb n (length s - at) h, ← front, e));
-          }
-
-  pub four_end : (r : Bool) → dots ≤ 0 → r ≡ dec_octet (rest at s) → r ≡ ipv4address s
-  unfolding octets
-  four_end r h er =
-      let z : dots ≡ 0 = omega arith in
-      er ∙ ap dec_octet (rest_is at s) ∙ (rw z at inv.so_far)
+pub four_end : (s left : List ℕ) (r : Bool) → Four s 3 left → r ≡ dec_octet left → r ≡ ipv4address s
+unfolding octets
+four_end s left r inv er = er ∙ inv.so_far
 
 pub four_nil : ipv4address [] ≡ false
 unfolding before
@@ -183,22 +194,4 @@ pub four_dot : (s : List ℕ) → ipv4address s ≡ true → Has 46 s
 unfolding octets
 four_dot s e = cut_has 46 dec_octet (octets 2) s (sym (cut_then 46 dec_octet (octets 2) octet_lacks.free s) ∙ four_octets s ∙ e)
 
-pub ruleset laws = (
-  between_below,
-  between_from,
-  large_1,
-  large_1_not,
-  large_3,
-  large_25,
-  large_2,
-  large_2_not,
-  octet_1,
-  octet_2,
-  octet_2_not,
-  octet_none,
-  four_start,
-  four_none,
-  four_bad,
-  four_next,
-  four_end,
-)
+pub ruleset laws = (four_start, four_none, four_bad, four_next, four_end)

@@ -5,12 +5,13 @@ use mathlib.Core.Bool.{Bool, true, false, ◌&&◌, ◌||◌, and-true, and-fals
 use mathlib.Core.List.{List, [], ◌∷◌}
 use native.Mathlib.Omega.{arith}
 use lib.Dec.{leb, ltb, eqb, leb-suc-suc, eqb-suc-suc, eqb-suc-zero}
-use lib.ListN.{length, take, drop, get_or, length-drop}
-use lib.Seq.{drop-drop}
-use borrow.Author.Tests.{le-leb, lt-leb, leb-true, lt-ltb, le-ltb, eq-eqb, ne_eqb, eqb-true, not-true, not-false}
+use lib.ListN.{length, take, drop, length-drop}
+use borrow.Author.Tests.{le-leb, lt-leb, leb-true, lt-ltb, le-ltb, eq-eqb, ne_eqb, eqb-true, eqb-false, not-true, not-false}
+use Rattle.std.specs.Prelude.{Some, None}
+use Rattle.std.specs.List.{list_all}
 use Rattle.text.specs.Find.{before}
 use Rattle.text.proofs.Bools.{by_bool, clash, both_ways, and_right}
-use Rattle.text.proofs.Left.{rest, rest_is, next_byte, none_left}
+use Rattle.text.proofs.Left.{rest, rest_is}
 use Rattle.number.specs.Hex.{between, hex_digit}
 use Rattle.abnf.specs.Rule.{Rule, nothing, range, ◌or◌, ◌then◌, upto}
 use Rattle.abnf.proofs.Rules.{cut, cut_then, then_none, has_free}
@@ -41,8 +42,7 @@ hexdig_then q x s = go s ∙ rw (hexdig_is x)
         rw (then_none (λ t. hexdig (x ∷ y ∷ t)) q (λ t. refl) s) (or-false (hexdig (x ∷ []) && q (y ∷ s)))
 
 unfoldable pub all_hex : List ℕ → Bool
-all_hex [] = true
-all_hex (x ∷ s) = ltb (hex_digit x) 16 && all_hex s
+all_hex s = list_all (λ x. ltb (hex_digit x) 16) s
 
 swap : (a b c : Bool) → a && (b && c) ≡ b && (a && c)
 swap true b c = refl
@@ -66,36 +66,19 @@ pub no_group : h16 [] ≡ false
 unfolding h16 hexdig ◌or◌ ◌then◌ range
 no_group = refl
 
--- `is_h16`: what is left decides
-pub record Hexes (s : List ℕ) (i : ℕ) : Type 0 where
-  pub within : i ≤ length s
-  pub so_far : all_hex (drop i s) ≡ all_hex s
-
-pub h16_empty : (s : List ℕ) → length s ≡ 0 → false ≡ h16 s
+-- `is_h16`
+pub h16_empty : (s : List ℕ) → length s < 1 → false ≡ h16 s
 h16_empty [] h = sym no_group
 h16_empty (x ∷ s) h = absurd (omega arith)
 
-pub h16_long : (s : List ℕ) → 4 < length s → false ≡ h16 s
-h16_long s h = sym (group_is s (λ e. omega arith) ∙ rw (lt-leb (length s) 4 h))
+pub h16_long : (s : List ℕ) → 5 ≤ length s → false ≡ h16 s
+h16_long s h = sym (group_is s (λ e. omega arith) ∙ rw (lt-leb (length s) 4 (omega arith)))
 
-pub h16_start : (s : List ℕ) → Hexes s 0
-h16_start s = record { within = omega arith; so_far = refl }
+pub h16_hex : (s : List ℕ) (r : Bool) → 1 ≤ length s → length s < 5 → r ≡ list_all (λ x. ltb (hex_digit x) 16) s → r ≡ h16 s
+unfolding all_hex
+h16_hex s r h k er = er ∙ sym (group_is s (λ e. omega arith) ∙ rw (le-leb (length s) 4 (omega arith)))
 
-module _ {s : List ℕ} {i : ℕ} (inv : Hexes s i) (some : length s ≡ 0 → ⊥) where
-  module _ (h : i < length s) (v : ℕ) (ev : v ≡ hex_digit (get_or s i 0)) where
-    first : all_hex s ≡ ltb v 16 && all_hex (drop (i + 1) s)
-    unfolding all_hex
-    first = sym inv.so_far ∙ rw (next_byte s i h, ev)
-
-    pub h16_bad : 16 ≤ v → false ≡ h16 s
-    h16_bad k = sym (group_is s some ∙ rw (first, le-ltb v 16 k) (and-false (leb (length s) 4)))
-
-    pub h16_next : v < 16 → Hexes s (i + 1)
-    h16_next k = record { within = omega arith; so_far = sym (first ∙ rw (lt-ltb v 16 k)) }
-
-  pub h16_all : length s ≤ 4 → length s ≤ i → true ≡ h16 s
-  unfolding all_hex
-  h16_all h k = sym (group_is s some ∙ rw (le-leb (length s) 4 h, ← inv.so_far, none_left s i k))
+pub ruleset h16_laws = (h16_empty, h16_long, h16_hex)
 
 -- no colon and no dot in a group
 pub group_lacks : Lacks 58 h16
@@ -146,12 +129,11 @@ module _ (four : Bool) (t : List ℕ) where
       ∙ rw (cut_at 58 h16 (groups four (suc n)) t, le-ltb (before 58 t) (length t) h)
       (rw (eqb-suc-suc (suc n) 0, eqb-suc-zero n, eqb-suc-suc (suc n) 1, eqb-suc-suc n 0))
 
--- `count_groups`: what is left from at on is to be done groups fewer; n is the place of its first colon
-pub record Counting (four : Bool) (s : List ℕ) (done at n : ℕ) : Type 0 where
-  pub within : at ≤ length s
-  pub few : done ≤ at
-  pub place : n ≡ before 58 (drop at s)
-  pub so_far : (m : ℕ) → groups four m s ≡ begun four (m - done) (drop at s)
+-- `count_groups`: what is left is to be done groups fewer, and n is the place of its first colon
+pub record Counting (four : Bool) (s : List ℕ) (done : ℕ) (left : List ℕ) (n : ℕ) : Type 0 where
+  pub few : done + length left ≤ length s
+  pub place : n ≡ before 58 left
+  pub so_far : (m : ℕ) → groups four m s ≡ begun four (m - done) left
 
 nothing_some : (s : List ℕ) → (length s ≡ 0 → ⊥) → nothing s ≡ false
 unfolding nothing
@@ -164,22 +146,18 @@ groups_nil four n =
     begun_last four [] (omega arith) (suc n)
     ∙ rw (no_group, four_nil, and-false four, and-false (eqb (suc n) 1), and-false (eqb (suc n) 2))
 
-pub count_empty : (four : Bool) (s : List ℕ) → length s ≡ 0 → Counted four s 0
+pub count_empty : (four : Bool) (s : List ℕ) → length s ≡ 0 → Counted four s (Some 0)
 count_empty four [] h zero k = unfold groups nothing in refl
 count_empty four [] h (suc n) k = groups_nil four n ∙ sym (eqb-suc-zero n)
 count_empty four (x ∷ s) h n k = absurd (omega arith)
 
-pub count_start : (four : Bool) (s : List ℕ) (n : ℕ) → (length s ≡ 0 → ⊥) → n ≡ before 58 s → Counting four s 0 0 n
+pub count_start : (four : Bool) (s : List ℕ) (n : ℕ) (b : Bool) → b ≡ eqb (length s) 0 → b ≡ false → n ≡ before 58 s → Counting four s 0 s n
 unfolding begun groups
-count_start four s n h e = record { within = omega arith; few = omega arith; place = e; so_far = go }
+count_start four s n b eb f e = record { few = omega arith; place = e; so_far = go }
   where
     go : (m : ℕ) → groups four m s ≡ begun four (m - 0) s
-    go zero = nothing_some s h
+    go zero = nothing_some s (eqb-false (length s) 0 (sym eb ∙ f))
     go (suc m) = let e : suc m - 0 ≡ suc m = omega arith in rw e
-
--- an answer over 8 for a text that is no number of groups
-none : (four : Bool) (s : List ℕ) → ((m : ℕ) → groups four m s ≡ false) → Counted four s 9
-none four s f m k = f m ∙ sym (ne_eqb m 9 (λ e. omega arith))
 
 -- the number of groups left, and the number of all
 all_groups : (m done k : ℕ) → 0 < k → eqb (m - done) k ≡ eqb m (done + k)
@@ -188,71 +166,46 @@ all_groups m done k h =
     (λ e. eq-eqb m (done + k) (omega (arith, eqb-true (m - done) k e)))
     (λ e. eq-eqb (m - done) k (omega (arith, eqb-true m (done + k) e)))
 
-module _ {four : Bool} {s : List ℕ} {done at n : ℕ} (inv : Counting four s done at n) where
-  module _ (h : n < length s - at) (r : Bool) (er : r ≡ h16 (take (at + n - at) (drop at s))) where
-    step : (m : ℕ) → groups four m s ≡ r && begun four (m - done - 1) (drop (at + n + 1) s)
+module _ {four : Bool} {s : List ℕ} {done : ℕ} {left : List ℕ} {n : ℕ} (inv : Counting four s done left n) where
+  module _ (h : n < length left) (r : Bool) (er : r ≡ h16 (take n left)) where
+    step : (m : ℕ) → groups four m s ≡ r && begun four (m - done - 1) (drop (n + 1) left)
     step m =
-        let e : at + n - at ≡ n = omega arith in
-        let k : at + n + 1 ≡ at + suc n = omega arith in
-        inv.so_far m
-        ∙ begun_colon four (drop at s) (omega (arith, inv.place, length-drop at s)) (m - done)
-        ∙ rw (er, e, ← inv.place, k, drop-drop)
+        let k : suc n ≡ n + 1 = omega arith in
+        inv.so_far m ∙ begun_colon four left (omega (arith, inv.place)) (m - done) ∙ rw (er, ← inv.place, k)
 
-    pub count_bad : r ≡ false → Counted four s 9
-    count_bad e = none four s (λ m. step m ∙ rw e)
+    pub count_bad : r ≡ false → Counted four s None
+    count_bad e m k = step m ∙ rw e
 
-    pub count_next : r ≡ true → (k : ℕ) → k ≡ before 58 (rest (at + n + 1) s) → Counting four s (done + 1) (at + n + 1) k
+    pub count_next : r ≡ true → (k : ℕ) → k ≡ before 58 (rest (n + 1) left) → Counting four s (done + 1) (rest (n + 1) left) k
     count_next e k ek =
         record {
-          within = omega arith;
-          few = omega (arith, inv.few);
-          place = ek ∙ ap (before 58) (rest_is (at + n + 1) s);
-          so_far = λ m. let d : m - done - 1 ≡ m - (done + 1) = omega arith in step m ∙ rw (e, d);
+          few = omega (arith, inv.few, ap length (rest_is (n + 1) left), length-drop (n + 1) left);
+          place = ek;
+          so_far = λ m. let d : m - done - 1 ≡ m - (done + 1) = omega arith in step m ∙ rw (e, d, rest_is (n + 1) left);
         }
 
-  module _ (h : length s - at ≤ n) (r : Bool) (er : r ≡ h16 (rest at s)) where
-    last : (m : ℕ) → groups four m s ≡ (eqb (m - done) 1 && r) || (eqb (m - done) 2 && (four && ipv4address (drop at s)))
-    last m =
-        inv.so_far m
-        ∙ begun_last four (drop at s) (omega (arith, inv.place, length-drop at s)) (m - done)
-        ∙ rw (er, rest_is at s)
+  module _ (h : length left ≤ n) (r : Bool) (er : r ≡ h16 left) where
+    last : (m : ℕ) → groups four m s ≡ (eqb (m - done) 1 && r) || (eqb (m - done) 2 && (four && ipv4address left))
+    last m = inv.so_far m ∙ begun_last four left (omega (arith, inv.place)) (m - done) ∙ rw er
 
-    pub count_one : r ≡ true → Counted four s (done + 1)
+    pub count_one : r ≡ true → Counted four s (Some (done + 1))
     count_one e m k =
-        let f = one_of (drop at s) (ap h16 (sym (rest_is at s)) ∙ sym er ∙ e) in
         last m
-        ∙ rw (e, f, and-false four, and-false (eqb (m - done) 2), and-true (eqb (m - done) 1))
+        ∙ rw (e, one_of left (sym er ∙ e), and-false four, and-false (eqb (m - done) 2), and-true (eqb (m - done) 1))
         (or-false (eqb (m - done) 1) ∙ all_groups m done 1 (omega arith))
 
     module _ (e : r ≡ false) where
-      pub count_plain : four ≡ false → Counted four s 9
-      count_plain f = none four s (λ m. last m ∙ rw (e, f, and-false (eqb (m - done) 1), and-false (eqb (m - done) 2)))
+      pub count_plain : four ≡ false → Counted four s None
+      count_plain f m k = last m ∙ rw (e, f, and-false (eqb (m - done) 1), and-false (eqb (m - done) 2))
 
-      module _ (t : Bool) (f : four ≡ true) (et : t ≡ ipv4address (rest at s)) where
+      module _ (t : Bool) (f : four ≡ true) (et : t ≡ ipv4address left) where
         tail : (m : ℕ) → groups four m s ≡ eqb (m - done) 2 && t
-        tail m = last m ∙ rw (e, f, et, rest_is at s, and-false (eqb (m - done) 1))
+        tail m = last m ∙ rw (e, f, et, and-false (eqb (m - done) 1))
 
-        pub count_four : t ≡ true → Counted four s (done + 2)
+        pub count_four : t ≡ true → Counted four s (Some (done + 2))
         count_four g m k = tail m ∙ rw (g, and-true (eqb (m - done) 2)) (all_groups m done 2 (omega arith))
 
-        pub count_none : t ≡ false → Counted four s 9
-        count_none g = none four s (λ m. tail m ∙ rw (g, and-false (eqb (m - done) 2)))
+        pub count_none : t ≡ false → Counted four s None
+        count_none g m k = tail m ∙ rw (g, and-false (eqb (m - done) 2))
 
-pub ruleset laws = (
-  h16_empty,
-  h16_long,
-  h16_start,
-  h16_bad,
-  h16_next,
-  h16_all,
-  count_empty,
-  count_start,
-  count_bad,
-  count_next,
-  count_one,
-  count_plain,
-  count_four,
-  count_none,
-  not-true,
-  not-false,
-)
+pub ruleset laws = (count_empty, count_start, count_bad, count_next, count_one, count_plain, count_four, count_none, not-true, not-false)

@@ -1,10 +1,10 @@
 -- The number of a text: there exactly where the text is an address, and of its size. Assumes nothing.
+use Rattle.std.specs.Prelude.{Some, None}
 use Prim.Native.Nat.{ℕ, zero, suc, ◌+◌, ◌*◌, ◌-◌, ◌≤◌, ◌<◌}
 use mathlib.Core.Path.{◌≡◌, refl, sym, ap, ◌∙◌}
 use mathlib.Core.Bool.{Bool, true, false, cond, ◌&&◌, ◌||◌, or-false}
 use mathlib.Core.List.{List, [], ◌∷◌, ◌++◌}
 use mathlib.Core.Logic.{◌↔◌}
-use mathlib.Core.Option.{none, some}
 use native.Mathlib.Omega.{arith}
 use lib.Dec.{eqb, leb, ltb}
 use lib.ListN.{length, take, drop, get_or, replicate, length-append}
@@ -29,7 +29,7 @@ pub none_is_no_address : NoneIsNoAddress
 unfolding ip_address_of ip_address ◌or◌
 none_is_no_address s = go _ _ (ipv4address s) (ipv6address s)
   where
-    go : (x y : Address) (a b : Bool) → cond a (some x) (cond b (some y) none) ≡ none ↔ a || b ≡ false
+    go : (x y : Address) (a b : Bool) → cond a (Some x) (cond b (Some y) None) ≡ None ↔ a || b ≡ false
     go x y true b = (λ e. clash (cc), λ e. clash (cc))
     go x y false true = (λ e. clash (cc), λ e. clash (cc))
     go x y false false = (λ e. refl, λ e. refl)
@@ -252,12 +252,12 @@ filled_sized a b l r h k m =
     (sized_append a (8 - (length l + length r)) 65536 l _ k (sized_zeros (8 - (length l + length r)) 65536 (omega arith))) m)
 
 -- a number of which a test is true
-record Some (n : ℕ) (f : ℕ → Bool) : Type 0 where
+record Found (n : ℕ) (f : ℕ → Bool) : Type 0 where
   number : ℕ
   within : number < n
   is : f number ≡ true
 
-any_some : (n : ℕ) (f : ℕ → Bool) → any n f ≡ true → Some n f
+any_some : (n : ℕ) (f : ℕ → Bool) → any n f ≡ true → Found n f
 unfolding any
 any_some zero f h = clash (cc)
 any_some (suc n) f h =
@@ -299,12 +299,12 @@ pub address_sized : AddressSized
 unfolding ip_address_of
 address_sized = record { octets = of_four; groups = of_six }
   where
-    of_four : (s os : List ℕ) → ip_address_of s ≡ some (four os) → Sized 4 256 os
+    of_four : (s os : List ℕ) → ip_address_of s ≡ Some (four os) → Sized 4 256 os
     of_four s os e =
         by_bool (ipv4address s) (λ f. let k : octets_of s ≡ os = cc (simp f at e) in rw k at (four_sized s f))
         (λ f. by_bool (ipv6address s) (λ g. clash (cc (simp (f, g) at e))) (λ g. clash (cc (simp (f, g) at e))))
 
-    of_six : (s gs : List ℕ) → ip_address_of s ≡ some (six gs) → Sized 8 65536 gs
+    of_six : (s gs : List ℕ) → ip_address_of s ≡ Some (six gs) → Sized 8 65536 gs
     of_six s gs e =
         by_bool (ipv4address s) (λ f. clash (cc (simp f at e)))
         (λ f. by_bool (ipv6address s) (λ g. let k : groups_of s ≡ gs = cc (simp (f, g) at e) in rw k at (six_sized s g)) (λ g. clash (cc (simp (f, g) at e))))

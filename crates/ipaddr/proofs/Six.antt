@@ -1,14 +1,15 @@
 -- IPv6address: the nine forms, by the place of the first "::" and the groups on its two sides. Assumes nothing.
 use Prim.Native.Nat.{ℕ, zero, suc, ◌+◌, ◌-◌, ◌≤◌, ◌<◌}
-use mathlib.Core.Path.{◌≡◌, refl, sym, ap, ◌∙◌, fun_ext}
+use mathlib.Core.Path.{◌≡◌, refl, sym, ap, subst, ◌∙◌, fun_ext}
 use mathlib.Core.Bool.{Bool, true, false, ◌&&◌, ◌||◌, and-true, and-false, or-false}
 use mathlib.Core.List.{List, [], ◌∷◌, ◌++◌}
 use native.Mathlib.Omega.{arith}
 use lib.Dec.{leb, ltb, eqb, leb-suc-suc, eqb-suc-suc, eqb-zero-suc, eqb-suc-zero}
-use lib.ListN.{length, take, drop, length-take}
-use borrow.Author.Tests.{lt-ltb, le-ltb, eq-eqb, ne_eqb, eqb-true}
+use lib.ListN.{length, take, drop}
+use borrow.Author.Tests.{lt-leb, lt-ltb, le-ltb, eq-eqb, ne_eqb, eqb-true}
+use Rattle.std.specs.Prelude.{Option, Some, None}
 use Rattle.text.specs.Find.{before, before_pair}
-use Rattle.text.proofs.Bools.{both_ways}
+use Rattle.text.proofs.Bools.{both_ways, clash}
 use Rattle.text.proofs.Left.{rest, rest_is}
 use Rattle.text.proofs.Cuts.{cut_pair, pair_whole}
 use Rattle.abnf.specs.Rule.{Rule, nothing, letter, ◌or◌, ◌then◌, maybe, times, upto}
@@ -182,7 +183,7 @@ six_forms s =
     (ap (λ (b : Bool). groups true 8 s || b) (sym (any_8 (λ a. form a (7 - a) s))))
 
 -- the counts on the two sides
-most_counted : (a m : ℕ) (l : List ℕ) → Counted false l a → m ≤ 7 → at_most m l ≡ leb a m
+most_counted : (a m : ℕ) (l : List ℕ) → Counted false l (Some a) → m ≤ 7 → at_most m l ≡ leb a m
 most_counted a m l c h =
     any_same (suc m) (λ k. groups false k l) (λ k. true && eqb k a) (λ k g. c k (omega arith))
     ∙ any_pick (suc m) (λ k. true) a
@@ -197,30 +198,53 @@ no_eight s h =
 
 -- `is_ipv6_address`
 module _ (s : List ℕ) (g : ℕ) (eg : g ≡ before_pair 58 58 s) where
-  pub six_eight : length s ≤ g → (r : ℕ) → Counted true s r → eqb r 8 ≡ ipv6address s
-  six_eight h r c =
-      sym
-      (six_forms s
-      ∙ rw (any_none 8 (λ a. form a (7 - a) s) (λ a k. rw (← eg, le-ltb g (length s) h)), c 8 (omega arith))
-      (or-false (eqb 8 r) ∙ both_ways (eqb 8 r) (eqb r 8) (λ e. eq-eqb r 8 (sym (eqb-true 8 r e))) (λ e. eq-eqb 8 r (sym (eqb-true r 8 e)))))
+  six_plain : length s ≤ g → ipv6address s ≡ groups true 8 s
+  six_plain h =
+      six_forms s
+      ∙ rw (any_none 8 (λ a. form a (7 - a) s) (λ a k. rw (← eg, le-ltb g (length s) h)))
+      (or-false (groups true 8 s))
 
-  pub six_front : g < length s → g ≡ length (take g s)
-  six_front h = omega (arith, length-take g s)
+  pub six_eight : length s ≤ g → (r : Option ℕ) → Counted true s r → r ≡ Some 8 → true ≡ ipv6address s
+  six_eight h None c e = clash (cc)
+  six_eight h (Some n) c e = let k : n ≡ 8 = cc in sym (six_plain h ∙ c 8 (omega arith) ∙ eq-eqb 8 n (omega arith))
+
+  pub six_other : length s ≤ g → (r : Option ℕ) → Counted true s r → (r ≡ Some 8 → ⊥) → false ≡ ipv6address s
+  six_other h None c e = sym (six_plain h ∙ c 8 (omega arith))
+  six_other h (Some n) c e = sym (six_plain h ∙ c 8 (omega arith) ∙ ne_eqb 8 n (λ k. e (ap Some (sym k))))
 
   pub six_whole : g < length s → g + 2 ≤ length s
   six_whole h = omega (arith, pair_whole 58 58 s (omega arith))
 
-  module _ (h : g < length s) (a b : ℕ) (ca : Counted false (take g s) a) (cb : Counted true (rest (g + 2) s) b) where
-    form_counted : (m : ℕ) → m ≤ 7 → form m (7 - m) s ≡ leb a m && eqb (7 - m) b
-    form_counted m k =
+  module _ (h : g < length s) where
+    sides : ipv6address s ≡ any 8 (λ m. at_most m (take g s) && groups true (7 - m) (drop (g + 2) s))
+    sides =
         let e : suc (suc g) ≡ g + 2 = omega arith in
-        rw (← eg, lt-ltb g (length s) h, most_counted a m (take g s) ca k, e, ← rest_is (g + 2) s, cb (7 - m) (omega arith))
+        six_forms s ∙ rw (no_eight s (omega arith)) (any_same 8 _ _ (λ m k. rw (← eg, lt-ltb g (length s) h, e)))
 
+    -- a side that is no number of groups
+    pub six_left : (a : Option ℕ) → Counted false (take g s) a → a ≡ None → false ≡ ipv6address s
+    six_left (Some a) c e = clash (cc)
+    six_left None c e =
+        sym (sides ∙ any_none 8 _ (λ m k. rw (any_none (suc m) (λ j. groups false j (take g s)) (λ j l. c j (omega arith)))))
+
+    pub six_right : (b : Option ℕ) → Counted true (rest (g + 2) s) b → b ≡ None → false ≡ ipv6address s
+    six_right (Some b) c e = clash (cc)
+    six_right None c e =
+        sym (sides ∙ any_none 8 _ (λ m k. rw (← rest_is (g + 2) s, c (7 - m) (omega arith)) (and-false (at_most m (take g s)))))
+
+  -- the counts of both sides
+  module _ (h : g < length s) (x y : Option ℕ) (a b : ℕ) (cx : Counted false (take g s) x) (ex : x ≡ Some a)
+      (cy : Counted true (rest (g + 2) s) y) (ey : y ≡ Some b) where
     counted : ipv6address s ≡ any 8 (λ m. leb a m && eqb (7 - m) b)
-    counted = six_forms s ∙ rw (no_eight s (omega arith)) (any_same 8 _ _ (λ m k. form_counted m (omega arith)))
+    counted =
+        let ca = subst (Counted false (take g s)) ex cx in
+        let cb = subst (Counted true (rest (g + 2) s)) ey cy in
+        sides h
+        ∙ any_same 8 _ _ (λ m k. rw (most_counted a m (take g s) ca (omega arith), ← rest_is (g + 2) s, cb (7 - m) (omega arith)))
 
-    pub six_many : 7 < b → false ≡ ipv6address s
-    six_many k = sym (counted ∙ any_none 8 _ (λ m l. rw (ne_eqb (7 - m) b (λ e. omega arith)) (and-false (leb a m))))
+    pub six_many : 7 < b → leb b 7 ≡ ipv6address s
+    six_many k =
+        lt-leb b 7 k ∙ sym (counted ∙ any_none 8 _ (λ m l. rw (ne_eqb (7 - m) b (λ e. omega arith)) (and-false (leb a m))))
 
     pub six_few : b ≤ 7 → leb a (7 - b) ≡ ipv6address s
     six_few k =
@@ -246,4 +270,4 @@ module _ (s : List ℕ) (t : Bool) (et : t ≡ ipv4address s) where
   unfolding ip_address ◌or◌
   address_six e r er = sym (rw (← et, e) (sym er))
 
-pub ruleset laws = (six_eight, six_front, six_whole, six_many, six_few, address_four, address_six)
+pub ruleset laws = (six_eight, six_other, six_left, six_right, six_whole, six_many, six_few, address_four, address_six)

@@ -1,6 +1,5 @@
 -- The number of an IP address: its family, and four octets or eight groups of 16 bits (RFC 3986, section 3.2.2; RFC 4291, section 2.2).
-use Rattle.std.specs.Prelude.{ℕ, ◌+◌, ◌*◌, ◌-◌, cond, List, [], ◌∷◌, ◌++◌, eqb, ltb, length, take, drop, replicate}
-use Rattle.std.proofs.Math.Option.{Option, none, some}
+use Rattle.std.specs.Prelude.{ℕ, ◌+◌, ◌*◌, ◌-◌, cond, List, [], ◌∷◌, ◌++◌, eqb, ltb, length, take, drop, replicate, Option, Some, None}
 use Rattle.text.specs.Find.{before_pair}
 use Rattle.number.specs.Hex.{hex_digit}
 use Rattle.ipaddr.specs.Address.{ipv4address, ipv6address}
@@ -49,4 +48,4 @@ groups_of s =
 
 -- the address that a text is, or none
 unfoldable pub ip_address_of : List ℕ → Option Address
-ip_address_of s = cond (ipv4address s) (some (four (octets_of s))) (cond (ipv6address s) (some (six (groups_of s))) none)
+ip_address_of s = cond (ipv4address s) (Some (four (octets_of s))) (cond (ipv6address s) (Some (six (groups_of s))) None)

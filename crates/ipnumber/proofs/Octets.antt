@@ -1,116 +1,92 @@
--- The octets of an IPv4address: those before a place are held. Assumes nothing.
-use Prim.Native.Nat.{ℕ, suc, ◌+◌, ◌-◌, ◌≤◌, ◌<◌}
-use mathlib.Core.Path.{◌≡◌, refl, sym, ap, ◌∙◌}
-use mathlib.Core.Bool.{Bool, true, false}
-use mathlib.Core.List.{List, [], ◌∷◌, ◌++◌}
+-- The octets of an IPv4address: those before a place are read. Assumes nothing.
+use Prim.Native.Nat.{ℕ, suc, ◌+◌, ◌≤◌, ◌<◌}
+use mathlib.Core.Path.{◌≡◌, refl, sym, ap, subst, ◌∙◌}
+use mathlib.Core.Bool.{true, false}
+use mathlib.Core.List.{List, [], ◌∷◌, ◌++◌, append-nil}
 use native.Mathlib.Omega.{arith}
-use lib.ListN.{length, drop, replicate, length-drop}
-use lib.Seq.{drop-drop}
+use native.Mathlib.Numerals.{add-one}
+use lib.ListN.{length, take, set, length-set}
+use lib.Seq.{take-suc-set, take_all}
+use Rattle.std.specs.Prelude.{Option, Some, None}
 use Rattle.text.specs.Find.{before}
-use Rattle.text.proofs.Bools.{by_bool}
+use Rattle.text.proofs.Bools.{by_bool, clash}
 use Rattle.text.proofs.Left.{rest, rest_is}
-use Rattle.ipaddr.specs.Address.{dec_octet, ipv4address}
+use Rattle.ipaddr.specs.Address.{ipv4address}
 use Rattle.ipaddr.specs.Number.{octets_from, octets_of}
-use Rattle.ipaddr.specs.Private.Value.{valued}
 use Rattle.ipaddr.proofs.Four as four
 use Rattle.ipaddr.proofs.Four.{Four}
-use Rattle.ipaddr.proofs.Number.{octets_cut, octet_alone, octet_small, four_sized}
-use Rattle.ipnumber.specs.declared.Words.{Words}
-use Rattle.ipnumber.specs.Private.Holding.{words, holding, no_words, octet_of, pushed, octets_read}
-use Rattle.ipnumber.proofs.Held.{part, none_held, held_count, held_more, none_count, joined, push_held, push_not}
+use Rattle.ipaddr.proofs.Number.{octets_cut, octet_alone}
+use Rattle.ipnumber.specs.Private.Holding.{octet_of, octets_read}
+use Rattle.ipnumber.proofs.Held.{joined, octet_none, octet_some}
 
--- `read_octets`: the octets up to at are held
-pub record Octets (s : List ℕ) (w : Words) (at : ℕ) : Type 0 where
-  pub dots : Four s (3 - w.count) at
-  pub numbers : List ℕ
-  pub holds : w ≡ holding numbers
-  pub few : length numbers ≤ 3
-  pub so_far : numbers ++ octets_from 0 (drop at s) ≡ octets_of s
+-- `read_octets`: i octets are read, and left is what is left of the text
+pub record Octets (s : List ℕ) (os : List ℕ) (i : ℕ) (left : List ℕ) : Type 0 where
+  pub four : length os ≡ 4
+  pub dots : Four s i left
+  pub so_far : take i os ++ octets_from 0 left ≡ octets_of s
 
-pub octets_start : (s : List ℕ) → Octets s (words 0 (replicate 8 0)) 0
+pub octets_start : (s os : List ℕ) → length os ≡ 4 → Octets s os 0 s
 unfolding octets_of
-octets_start s = record { dots = four.four_start s; numbers = []; holds = none_held; few = omega arith; so_far = refl }
+octets_start s os h = record { four = h; dots = four.four_start s; so_far = refl }
 
-octets_no : (s : List ℕ) (r : Words) → r ≡ no_words → false ≡ ipv4address s → r ≡ octets_read s
+octets_no : (s : List ℕ) → false ≡ ipv4address s → None ≡ octets_read s
 unfolding octets_read
-octets_no s r e f = e ∙ sym (rw (← f))
+octets_no s e = sym (rw (← e))
 
-module _ {s : List ℕ} {w : Words} {at : ℕ} (inv : Octets s w at) where
-  -- an octet in the part p, or none
-  octet_held : (p : List ℕ) (x : ℕ) (r : Words) → x ≡ octet_of p → r ≡ pushed w x → dec_octet p ≡ true → r ≡ holding (inv.numbers ++ valued 10 0 p ∷ [])
-  unfolding octet_of
-  octet_held p x r ex er e =
-      let k : x ≡ valued 10 0 p = ex ∙ rw e in
-      er ∙ rw (k, inv.holds) (push_held inv.numbers (valued 10 0 p) (omega (arith, inv.few)) (omega (arith, octet_small p e)))
+octets_yes : (s os : List ℕ) → true ≡ ipv4address s → os ≡ octets_of s → Some os ≡ octets_read s
+unfolding octets_read
+octets_yes s os e f = sym (rw (← e, f))
 
-  octet_lost : (p : List ℕ) (x : ℕ) (r : Words) → x ≡ octet_of p → r ≡ pushed w x → dec_octet p ≡ false → r ≡ no_words
-  unfolding octet_of
-  octet_lost p x r ex er e = let k : x ≡ 65536 = ex ∙ rw e in er ∙ push_not w x (omega arith)
+-- one octet more
+more : (os : List ℕ) (i x : ℕ) (r t : List ℕ) → i < length os → take i os ++ x ∷ r ≡ t → take (i + 1) (set os i x) ++ r ≡ t
+more os i x r t h e = rw (add-one i, take-suc-set os i x h) (joined (take i os) x r t e)
 
-  module _ (n : ℕ) (fewer : w.count < 3) (en : n ≡ before 46 (rest at s)) where
-    pub octets_none : length s - at ≤ n → (r : Words) → r ≡ no_words → r ≡ octets_read s
-    octets_none h r e = octets_no s r e (four.four_none inv.dots n (omega arith) en h)
+module _ {s os : List ℕ} {i : ℕ} {left : List ℕ} (inv : Octets s os i left) where
+  module _ (n : ℕ) (few : i < 3) (en : n ≡ before 46 left) where
+    pub octets_none : length left ≤ n → None ≡ octets_read s
+    octets_none h = octets_no s (four.four_none s left n en i inv.dots few h)
 
-    module _ (h : n < length s - at) (x : ℕ) (w' : Words) (ex : x ≡ octet_of (part at n s)) (ew : w' ≡ pushed w x) where
-      pub octets_bad : 3 < w'.count → w' ≡ octets_read s
-      octets_bad k =
-          by_bool (dec_octet (part at n s))
-          (λ e.
-          absurd (omega (arith, held_more inv.numbers (valued 10 0 (part at n s)) inv.holds (octet_held (part at n s) x w' ex ew e))))
-          (λ e.
-          octets_no s w' (octet_lost (part at n s) x w' ex ew e)
-          (four.four_bad inv.dots n (omega arith) en h false (sym e) refl))
+    module _ (h : n < length left) (r : Option ℕ) (er : r ≡ octet_of (take n left)) where
+      pub octets_bad : r ≡ None → None ≡ octets_read s
+      octets_bad e = octets_no s (four.four_bad s left n en i inv.dots few h false (sym (octet_none (take n left) r er e)) refl)
 
-      pub octets_next : w'.count ≤ 3 → Octets s w' (at + n + 1)
-      octets_next k =
-          by_bool (dec_octet (part at n s)) good
-          (λ e. absurd (omega (arith, none_count (octet_lost (part at n s) x w' ex ew e))))
-        where
-          good : dec_octet (part at n s) ≡ true → Octets s w' (at + n + 1)
-          good e =
-              let q = octet_held (part at n s) x w' ex ew e in
-              let v = valued 10 0 (part at n s) in
-              let c = held_more inv.numbers v inv.holds q in
-              let d : 3 - w.count - 1 ≡ 3 - w'.count = omega arith in
-              record {
-                dots = rw d at (four.four_next inv.dots n (omega arith) en h true (sym e) refl);
-                numbers = inv.numbers ++ v ∷ [];
-                holds = q;
-                few = omega (arith, held_count (inv.numbers ++ v ∷ []) q);
-                so_far = joined inv.numbers v _ _ (ap (λ (l : List ℕ). inv.numbers ++ l) (sym turn) ∙ inv.so_far);
-              }
-            where
-              turn : octets_from 0 (drop at s) ≡ valued 10 0 (part at n s) ∷ octets_from 0 (drop (at + n + 1) s)
-              turn =
-                  let m : n ≡ before 46 (drop at s) = en ∙ ap (before 46) (rest_is at s) in
-                  let i : at + n - at ≡ n = omega arith in
-                  let j : at + n + 1 ≡ at + suc n = omega arith in
-                  octets_cut 0 (drop at s) (omega (arith, m, length-drop at s)) ∙ rw (← m, i, j, drop-drop)
+      pub octets_next : (x : ℕ) → r ≡ Some x → Octets s (set os i x) (i + 1) (rest (n + 1) left)
+      octets_next x e =
+          let t = octet_some (take n left) r er x e in
+          let j : suc n ≡ n + 1 = omega arith in
+          let turn : octets_from 0 left ≡ x ∷ octets_from 0 (rest (n + 1) left)
+          = octets_cut 0 left (omega (arith, en)) ∙ rw (← en, t.1, rest_is (n + 1) left, j) in
+          record {
+            four = length-set os i x ∙ inv.four;
+            dots = four.four_next s left n en i inv.dots few h true (sym t.0) refl;
+            so_far = more os i x _ _ (omega (arith, inv.four)) (ap (λ (l : List ℕ). take i os ++ l) (sym turn) ∙ inv.so_far);
+          }
 
-  pub octets_end : 3 ≤ w.count → (x : ℕ) (r : Words) → x ≡ octet_of (rest at s) → r ≡ pushed w x → r ≡ octets_read s
-  unfolding octets_read
-  octets_end h x r ex er = by_bool (dec_octet (rest at s)) good (λ e. octets_no s r (octet_lost (rest at s) x r ex er e) (is false e))
-    where
-      is : (t : Bool) → dec_octet (rest at s) ≡ t → t ≡ ipv4address s
-      is t e = four.four_end inv.dots t (omega arith) (sym e)
+module _ {s os left : List ℕ} {i : ℕ} (inv : Octets s os i left) (k : i ≡ 3) (r : Option ℕ) (er : r ≡ octet_of left) where
+  dots : Four s 3 left
+  dots = subst (λ (n : ℕ). Four s n left) k inv.dots
 
-      good : dec_octet (rest at s) ≡ true → r ≡ octets_read s
-      good e =
-          let k : dec_octet (drop at s) ≡ true = rw (rest_is at s) at e in
-          octet_held (rest at s) x r ex er e
-          ∙ rw (← is true e, ← inv.so_far, octet_alone (drop at s) k, rest_is at s)
+  pub octets_last : r ≡ None → None ≡ octets_read s
+  octets_last e = octets_no s (four.four_end s left false dots (sym (octet_none left r er e)))
 
-pub ruleset octet_laws = (octets_start, octets_none, octets_bad, octets_next, octets_end)
+  pub octets_end : (x : ℕ) → r ≡ Some x → Some (set os 3 x) ≡ octets_read s
+  octets_end x e =
+      let t = octet_some left r er x e in
+      octets_yes s (set os 3 x) (four.four_end s left true dots (sym t.0))
+      (sym (take_all 4 (set os 3 x) (omega (arith, length-set os 3 x, inv.four)))
+      ∙ sym (append-nil (take 4 (set os 3 x)))
+      ∙ more os 3 x [] _ (omega (arith, inv.four)) (rw (t.1, ← octet_alone left t.0, ← k) inv.so_far))
+
+pub ruleset octet_laws = (octets_start, octets_none, octets_bad, octets_next, octets_last, octets_end)
 
 -- what the octets of a text tell of it
-pub octets_are : (s : List ℕ) → ipv4address s ≡ true → octets_read s ≡ holding (octets_of s)
+pub is_four : (s : List ℕ) (r : Option (List ℕ)) → r ≡ octets_read s → (os : List ℕ) → r ≡ Some os → (ipv4address s ≡ true) × (os ≡ octets_of s)
 unfolding octets_read
-octets_are s e = rw e
+is_four s r er os e =
+    by_bool (ipv4address s) (λ h. let k : r ≡ Some (octets_of s) = er ∙ rw h in (h, cc))
+    (λ h. let k : r ≡ None = er ∙ rw h in clash (cc))
 
-pub is_four : (s : List ℕ) (o : Words) → o ≡ octets_read s → o.count ≡ 4 → ipv4address s ≡ true
+pub not_four : (s : List ℕ) (r : Option (List ℕ)) → r ≡ octets_read s → r ≡ None → ipv4address s ≡ false
 unfolding octets_read
-is_four s o eo h = by_bool (ipv4address s) (λ e. e) (λ e. absurd (let k : o ≡ no_words = eo ∙ rw e in omega (arith, none_count k)))
-
-pub not_four : (s : List ℕ) (o : Words) → o ≡ octets_read s → (o.count ≡ 4 → ⊥) → ipv4address s ≡ false
-not_four s o eo h =
-    by_bool (ipv4address s) (λ e. absurd (h (held_count (octets_of s) (eo ∙ octets_are s e) ∙ (four_sized s e).count))) (λ e. e)
+not_four s r er e =
+    by_bool (ipv4address s) (λ h. let k : r ≡ Some (octets_of s) = er ∙ rw h in clash (cc)) (λ h. h)

@@ -1,176 +1,154 @@
 // The number of an IP address: its family, and its octets or groups (RFC 4291, section 2.2).
 #![tactic(auto)]
 
-ghost use Rattle.std.specs.Prelude.{◌≡◌, ◌+◌, ◌*◌, ◌-◌, ◌≤◌};
+ghost use Rattle.std.specs.Prelude.{◌≡◌, ◌+◌, ◌*◌, ◌-◌, ◌≤◌, []};
 ghost use Rattle.std.proofs.Math.Seq.{paste};
 ghost use Rattle.ipaddr.specs.Number.{ip_address_of};
 ghost use Rattle.ipaddr.specs.Private.Value.{valued};
 ghost use Rattle.ipnumber.specs.Told.{told};
-ghost use Rattle.ipnumber.specs.Private.Holding.{Small, no_words, octet_of, group_of, pushed, octets_read, with_pairs, with_last, GroupsRead, SixRead};
+ghost use Rattle.ipnumber.specs.Private.Holding.{Small, holding, octet_of, group_of, pushed, octets_read, with_pairs, with_last, wide, GroupsRead, six_read};
 
-// The family, 4 or 6, or 0 where the text is no address; the words are four octets or eight groups, and 0 where there are none.
-#[derive(Clone, Copy)]
+// The family of an address.
+#[derive(Clone, Copy, Debug, PartialEq, Eq)]
+pub enum Family {
+    V4,
+    V6,
+}
+
+// The words are four octets, with zeros behind them, or eight groups.
+#[derive(Clone, Copy, Debug, PartialEq, Eq)]
 pub struct IpNumber {
-    pub family: u8,
+    pub family: Family,
     pub words: [u16; 8],
 }
 
-// The words read so far, and 0 behind them; the count is 9 where the text is not what was to be read.
+// The groups read so far, and 0 behind them.
 #[derive(Clone, Copy)]
 struct Words {
     count: usize,
     words: [u16; 8],
 }
 
-// What stands for a text that is not what was to be read.
+// Before the first group.
 fn no_words() -> Words
-    ensures { result ≡ no_words }
+    ensures { result ≡ holding [] }
 {
     Words {
-        count: 9,
+        count: 0,
         words: [0; 8],
     }
 }
 
 // The value of digits in a base.
-fn value(s: &[u8], base: u32) -> u32
+fn value(s: &[u8], base: u16) -> u16
     requires { Small base s.now }
     ensures { result ≡ valued base 0 s.now }
 {
-    let mut v: u32 = 0;
-    let mut i: usize = 0;
-    while i < s.len() {
-        let digit = number::hex_digit(s[i]) as u32;
-        v = v * base + digit;
-        i += 1;
+    let mut v = 0;
+    for b in s {
+        v = v * base + u16::from(number::hex_digit(*b));
     }
     v
 }
 
-// The value of an octet, or 65536 where `s` is none.
-fn octet(s: &[u8]) -> u32
+// The value of an octet, if `s` is one.
+fn octet(s: &[u8]) -> Option<u8>
     ensures { result ≡ octet_of s.now }
 {
-    if ipaddr::is_dec_octet(s) {
-        return value(s, 10);
+    if !ipaddr::is_dec_octet(s) {
+        return None;
     }
-    65536
+    Some(value(s, 10) as u8)
 }
 
-// The value of a group, or 65536 where `s` is none.
-fn group(s: &[u8]) -> u32
+// The value of a group, if `s` is one.
+fn group(s: &[u8]) -> Option<u16>
     ensures { result ≡ group_of s.now }
 {
-    if ipaddr::is_h16(s) {
-        return value(s, 16);
+    if !ipaddr::is_h16(s) {
+        return None;
     }
-    65536
+    Some(value(s, 16))
 }
 
-// One word more, where `x` is a word and there is room for it.
-fn push(w: Words, x: u32) -> Words
+// One word more, if there is room for it.
+fn push(w: Words, x: u16) -> Option<Words>
     ensures { result ≡ pushed w x }
 {
-    if 65535 < x {
-        return no_words();
-    }
     let at = w.count;
     if 7 < at {
-        return no_words();
+        return None;
     }
-    let word = x as u16;
     let mut words = w.words;
-    words[at] = word;
-    Words {
+    words[at] = x;
+    Some(Words {
         count: at + 1,
-        words: words,
-    }
+        words,
+    })
 }
 
 // The octets of an IPv4address.
-fn read_octets(s: &[u8]) -> Words
+fn read_octets(s: &[u8]) -> Option<[u8; 4]>
     ensures { result ≡ octets_read s.now }
 {
-    let mut w = Words {
-        count: 0,
-        words: [0; 8],
-    };
-    let mut at: usize = 0;
-    while w.count < 3 {
-        let n = search::find(&s[at..], b'.');
-        if s.len() - at <= n {
-            return no_words();
+    let mut octets = [0; 4];
+    let mut rest = s;
+    for i in 0..3 {
+        let n = search::find(rest, b'.');
+        if rest.len() <= n {
+            return None;
         }
-        let end = at + n;
-        w = push(w, octet(&s[at..end]));
-        if 3 < w.count {
-            return w;
-        }
-        at = end + 1;
+        let next = octet(&rest[..n])?;
+        octets[i] = next;
+        rest = &rest[n + 1..];
     }
-    push(w, octet(&s[at..]))
+    octets[3] = octet(rest)?;
+    Some(octets)
 }
 
 // Two octets as one group.
-fn paired(high: u16, low: u16) -> u32
+fn paired(high: u8, low: u8) -> u16
     ensures { result ≡ high * 256 + low }
 {
-    let upper = high as u32;
-    let lower = low as u32;
-    upper * 256 + lower
+    u16::from(high) * 256 + u16::from(low)
 }
 
 // Two words more, of the four octets of an IPv4address.
-fn push_pairs(w: Words, octets: [u16; 8]) -> Words
+fn push_pairs(w: Words, octets: [u8; 4]) -> Option<Words>
     ensures { result ≡ with_pairs w octets }
 {
-    let first = paired(octets[0], octets[1]);
-    let second = paired(octets[2], octets[3]);
-    push(push(w, first), second)
+    let first = push(w, paired(octets[0], octets[1]))?;
+    push(first, paired(octets[2], octets[3]))
 }
 
 // The last group, for which an IPv4address may stand where `four`: two words then.
-fn read_last(w: Words, s: &[u8], four: bool) -> Words
+fn read_last(w: Words, s: &[u8], four: bool) -> Option<Words>
     ensures { result ≡ with_last four w s.now }
 {
-    let x = group(s);
-    if x < 65536 {
-        return push(w, x);
+    match group(s) {
+        Some(x) => push(w, x),
+        None if four => push_pairs(w, read_octets(s)?),
+        None => None,
     }
-    if !four {
-        return no_words();
-    }
-    let octets = read_octets(s);
-    if octets.count == 4 {
-        let parts = octets.words;
-        return push_pairs(w, parts);
-    }
-    no_words()
 }
 
 // The groups of a text with colons between them: none where it is empty. Where `four`, an IPv4address may stand for the last two.
-fn read_groups(s: &[u8], four: bool) -> Words
+fn read_groups(s: &[u8], four: bool) -> Option<Words>
     ensures { GroupsRead four s.now result }
 {
-    let mut w = Words {
-        count: 0,
-        words: [0; 8],
-    };
-    if s.len() == 0 {
-        return w;
+    let mut w = no_words();
+    if s.is_empty() {
+        return Some(w);
     }
-    let mut at: usize = 0;
+    let mut rest = s;
     let mut n = search::find(s, b':');
-    while n < s.len() - at {
-        let end = at + n;
-        w = push(w, group(&s[at..end]));
-        if 8 < w.count {
-            return w;
-        }
-        at = end + 1;
-        n = search::find(&s[at..], b':');
+    while n < rest.len() {
+        let x = group(&rest[..n])?;
+        w = push(w, x)?;
+        rest = &rest[n + 1..];
+        n = search::find(rest, b':');
     }
-    read_last(w, &s[at..], four)
+    read_last(w, rest, four)
 }
 
 // The words on the left of a "::", zeros for it, and those on its right: eight together.
@@ -179,76 +157,65 @@ fn filled(left: [u16; 8], right: [u16; 8], count: usize) -> [u16; 8]
     ensures { result ≡ paste left (8 - count) right count }
 {
     let mut words = left;
-    let start = 8 - count;
-    let mut i: usize = 0;
-    while i < count {
-        let at = start + i;
-        words[at] = right[i];
-        i += 1;
-    }
+    words[8 - count..].copy_from_slice(&right[..count]);
     words
 }
 
-// The groups of an IPv6address: eight words where it is one.
-fn read_six(s: &[u8]) -> Words
-    ensures { SixRead s.now result }
+// The eight groups of an IPv6address.
+fn read_six(s: &[u8]) -> Option<[u16; 8]>
+    ensures { result ≡ six_read s.now }
 {
     let gap = search::find_pair(s, b':', b':');
     if s.len() <= gap {
-        return read_groups(s, true);
+        let all = read_groups(s, true)?;
+        return if all.count == 8 {
+            Some(all.words)
+        } else {
+            None
+        };
     }
-    let left = read_groups(&s[..gap], false);
-    let behind = gap + 2;
-    let right = read_groups(&s[behind..], true);
-    let count = right.count;
-    if 7 < count {
-        return no_words();
+    let left = read_groups(&s[..gap], false)?;
+    let right = read_groups(&s[gap + 2..], true)?;
+    if 7 < right.count || 7 - right.count < left.count {
+        return None;
     }
-    if 7 - count < left.count {
-        return no_words();
-    }
-    let before = left.words;
-    let after = right.words;
-    Words {
-        count: 8,
-        words: filled(before, after, count),
-    }
+    Some(filled(left.words, right.words, right.count))
 }
 
-// The number of the address that `s` is, or that it is none.
-pub fn ip_number(s: &[u8]) -> IpNumber
+// Four octets with zeros behind them.
+fn wide(octets: [u8; 4]) -> [u16; 8]
+    ensures { result ≡ wide octets }
+{
+    let [a, b, c, d] = octets;
+    [
+        u16::from(a),
+        u16::from(b),
+        u16::from(c),
+        u16::from(d),
+        0,
+        0,
+        0,
+        0,
+    ]
+}
+
+// The number of the address that `s` is, if it is one.
+pub fn ip_number(s: &[u8]) -> Option<IpNumber>
     ensures { result ≡ told (ip_address_of s.now) }
 {
-    let nothing = IpNumber {
-        family: 0,
-        words: [0; 8],
-    };
-    if s.len() == 0 {
-        return nothing;
-    }
     // no address begins so, and many hosts do
-    let first = s[0];
-    if b'f' < first {
-        return nothing;
+    if matches!(s, [] | [b'[', ..] | [b'g'..=255, ..]) {
+        return None;
     }
-    if first == b'[' {
-        return nothing;
+    if let Some(octets) = read_octets(s) {
+        return Some(IpNumber {
+            family: Family::V4,
+            words: wide(octets),
+        });
     }
-    let octets = read_octets(s);
-    if octets.count == 4 {
-        let words = octets.words;
-        return IpNumber {
-            family: 4,
-            words: words,
-        };
-    }
-    let groups = read_six(s);
-    if groups.count == 8 {
-        let words = groups.words;
-        return IpNumber {
-            family: 6,
-            words: words,
-        };
-    }
-    nothing
+    let words = read_six(s)?;
+    Some(IpNumber {
+        family: Family::V6,
+        words,
+    })
 }

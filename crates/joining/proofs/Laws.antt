@@ -1,4 +1,5 @@
 -- One law for each way out of the crate's functions. Assumes nothing.
+use Rattle.std.specs.Prelude.{Result, Ok, Err}
 use Prim.Native.Nat.{ℕ, ◌*◌, ◌≤◌, ◌<◌}
 use mathlib.Core.Path.{◌≡◌, refl, sym, ap, ◌∙◌}
 use mathlib.Core.List.{List}
@@ -8,8 +9,6 @@ use lib.Seq.{sets}
 use borrow.Author.Tests.{eq-eqb, ne_eqb, lt-ltb, le-ltb}
 use Rattle.clock.specs.declared.Refusal.{Refusal}
 use Rattle.clock.specs.declared.ReferenceClock.{ReferenceClock}
-use Rattle.clock.specs.declared.ReferenceClockRead.{ReferenceClockRead}
-use Rattle.clock.specs.declared.ReferenceClockRead.TheVariants.{Accepted, Refused}
 use Rattle.meaning.specs.ReferenceClock.{read_reference_clock}
 use Rattle.meaning.specs.Meaning.{ref_meaning}
 use Rattle.streams.specs.Limits.{least_memory}
@@ -97,17 +96,17 @@ module _ (c : Census) (m v w : List ℕ) where
   unfolding join_outcome
   join_short h r e = record { does = λ i j s t. does_refuse (simp (lt-ltb (length m) least_memory h)) e }
 
-  module _ (h : least_memory ≤ length m) (x : ReferenceClockRead) (ex : x ≡ read_reference_clock v) where
-    pub join_first_refused : (q : Refusal) → x ≡ Refused q → (r : Called) → r ≡ refused_with c NoStream → Joins c m v w r m
+  module _ (h : least_memory ≤ length m) (x : Result ReferenceClock Refusal) (ex : x ≡ read_reference_clock v) where
+    pub join_first_refused : (q : Refusal) → x ≡ Err q → (r : Called) → r ≡ refused_with c NoStream → Joins c m v w r m
     unfolding join_outcome
     join_first_refused q e r er = record { does = λ i j s t. does_refuse (simp (le-ltb (length m) least_memory h, ← ex, e)) er }
 
-    module _ (k : ReferenceClock) (e : x ≡ Accepted k) (y : ReferenceClockRead) (ey : y ≡ read_reference_clock w) where
-      pub join_second_refused : (q : Refusal) → y ≡ Refused q → (r : Called) → r ≡ refused_with c NoStream → Joins c m v w r m
+    module _ (k : ReferenceClock) (e : x ≡ Ok k) (y : Result ReferenceClock Refusal) (ey : y ≡ read_reference_clock w) where
+      pub join_second_refused : (q : Refusal) → y ≡ Err q → (r : Called) → r ≡ refused_with c NoStream → Joins c m v w r m
       unfolding join_outcome
       join_second_refused q f r er = record { does = λ i j s t. does_refuse (simp (le-ltb (length m) least_memory h, ← ex, e, ← ey, f)) er }
 
-      pub join_accepted : (l : ReferenceClock) → y ≡ Accepted l → (r : Called) (m' : List ℕ) → JoinsClocks c m v k w l r m' → Joins c m v w r m'
+      pub join_accepted : (l : ReferenceClock) → y ≡ Ok l → (r : Called) (m' : List ℕ) → JoinsClocks c m v k w l r m' → Joins c m v w r m'
       unfolding join_outcome
       join_accepted l f r m' z =
           record {

@@ -1,10 +1,8 @@
 -- Joining: the streams of one clock's slot are added to those of the other's, and then it has none and is free. They are counted under the other's
 -- domain number from then on. A clock with streams joined into itself stays as it is.
-use Rattle.std.specs.Prelude.{ℕ, ◌*◌, ◌≡◌, List, cond, eqb, ltb, length}
+use Rattle.std.specs.Prelude.{ℕ, ◌*◌, ◌≡◌, List, cond, eqb, ltb, length, Result, Ok, Err}
 use Rattle.std.proofs.lemmas.List.Edits.{sets}
 use Rattle.clock.specs.declared.ReferenceClock.{ReferenceClock}
-use Rattle.clock.specs.declared.ReferenceClockRead.{ReferenceClockRead}
-use Rattle.clock.specs.declared.ReferenceClockRead.TheVariants.{Accepted, Refused}
 use Rattle.meaning.specs.ReferenceClock.{read_reference_clock}
 use Rattle.streams.specs.Limits.{least_memory}
 use Rattle.streams.specs.declared.Uncounted.TheVariants.{NoMemory, NoStream}
@@ -16,6 +14,7 @@ use Rattle.counts.specs.State.{census, used_in, plus, more, less}
 use Rattle.counts.specs.Outcome.{Outcome, leaves, refuses, Does}
 use Rattle.counts.specs.declared.Census.{Census}
 use Rattle.counts.specs.declared.Called.{Called}
+use Rattle.clock.specs.declared.Refusal.{Refusal}
 
 -- the memory m in which the slot j has the streams of the slot i too, and then the slot i none
 abbrev pub added_memory : List ℕ → ℕ → ℕ → List ℕ
@@ -42,10 +41,10 @@ join_clocks c m i from j into =
     cond (ltb i (used_in c)) (cond (ltb j (used_in c)) (join_slots c m i from j into) (refuses NoStream)) (refuses NoStream)
 
 -- and be accepted
-abbrev pub join_read : Census → List ℕ → ℕ → ReferenceClockRead → ℕ → ReferenceClockRead → Outcome
-join_read c m i (Accepted from) j (Accepted into) = join_clocks c m i from j into
-join_read c m i (Accepted from) j (Refused r) = refuses NoStream
-join_read c m i (Refused r) j x = refuses NoStream
+abbrev pub join_read : Census → List ℕ → ℕ → Result ReferenceClock Refusal → ℕ → Result ReferenceClock Refusal → Outcome
+join_read c m i (Ok from) j (Ok into) = join_clocks c m i from j into
+join_read c m i (Ok from) j (Err r) = refuses NoStream
+join_read c m i (Err r) j x = refuses NoStream
 
 -- the clock of the value v joined into that of w, where their slots are i and j
 unfoldable pub join_outcome : Census → List ℕ → List ℕ → List ℕ → ℕ → ℕ → Outcome

@@ -6,7 +6,7 @@ ghost use Rattle.counts.specs.Outcome.{Does};
 ghost use Rattle.joining.specs.Joining.{Moves, join_slots, Joins};
 ghost use Rattle.joining.specs.Private.Clock.{Adds, JoinsClocks};
 
-use clock::{ReferenceClock, ReferenceClockRead};
+use clock::ReferenceClock;
 use counts::{Called, Census};
 use streams::{LEAST_MEMORY, Uncounted};
 
@@ -79,11 +79,11 @@ pub fn join(census: Census, memory: &mut [u8], a: &[u8], b: &[u8]) -> Called
         return counts::refused(census, Uncounted::NoMemory);
     }
     let first = refclk::read_reference_clock(a);
-    let ReferenceClockRead::Accepted(from) = first else {
+    let Ok(from) = first else {
         return counts::refused(census, Uncounted::NoStream);
     };
     let second = refclk::read_reference_clock(b);
-    let ReferenceClockRead::Accepted(into) = second else {
+    let Ok(into) = second else {
         return counts::refused(census, Uncounted::NoStream);
     };
     join_clocks(census, memory, a, from, b, into)

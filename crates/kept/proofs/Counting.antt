@@ -1,4 +1,5 @@
 -- Counting answers as the list does, and keeps it. Assumes nothing.
+use Rattle.std.specs.Prelude.{Result, Ok, Err}
 use Prim.Native.Nat.{ℕ, ◌+◌, ◌*◌, ◌≤◌, ◌<◌, min, max}
 use mathlib.Core.Path.{◌≡◌, refl, sym, ap, ◌∙◌, subst}
 use mathlib.Core.List.{List, ◌∷◌}
@@ -11,8 +12,6 @@ use borrow.Author.Tests.{lt-ltb, le-ltb, le-leb, lt-leb, ltb-true, ltb-false, le
 use Rattle.text.proofs.Bools.{by_bool}
 use Rattle.clock.specs.declared.Refusal.{Refusal}
 use Rattle.clock.specs.declared.ReferenceClock.{ReferenceClock}
-use Rattle.clock.specs.declared.ReferenceClockRead.{ReferenceClockRead}
-use Rattle.clock.specs.declared.ReferenceClockRead.TheVariants as read
 use Rattle.meaning.specs.ReferenceClock.{read_reference_clock}
 use Rattle.meaning.specs.Meaning.{ref_meaning}
 use Rattle.equal.specs.Fingerprint.{fingerprint, host_print}
@@ -21,7 +20,6 @@ use Rattle.streams.specs.Limits.{limits, least_memory, most_clocks, most_streams
 use Rattle.streams.specs.Streams.{Streams, is_refused, of_clock, clocks_in}
 use Rattle.streams.specs.Calls.{count, fits, first_of, reasons, answer, next}
 use Rattle.streams.specs.declared.Uncounted.TheVariants.{NoMemory, TotalFull, ClocksFull}
-use Rattle.streams.specs.declared.Verdict.TheVariants.{Done, Refused}
 use Rattle.streams.specs.Book.{Stands}
 use Rattle.streams.specs.Private.Entries.{names}
 use Rattle.streams.proofs.Lists.{number_most}
@@ -52,12 +50,12 @@ module _ (R : Rule) (C : ClockRule R) (c : Census) (m : List ℕ) (l : Streams) 
     room : length l < most_streams
     room = omega (arith, leb-false most_streams c.total f, S.total)
 
-    count_answer : fits R limits v l ≡ true → answer R limits (length m) (count v) l ≡ Done
+    count_answer : fits R limits v l ≡ true → answer R limits (length m) (count v) l ≡ (Ok tt)
     unfolding reasons first_of
     count_answer h = long_answer R C m (count v) l t ∙ simp (lt-leb most_streams (length l) room, h)
 
     -- a refused value
-    count_refused : (q : Refusal) → read_reference_clock v ≡ read.Refused q → (i : ℕ) → Right R C (count_outcome c m v i) c m (count v) l
+    count_refused : (q : Refusal) → read_reference_clock v ≡ Err q → (i : ℕ) → Right R C (count_outcome c m v i) c m (count v) l
     unfolding count_outcome next
     count_refused q e i =
         let a : R.accepted v ≡ false = C.accepted v ∙ ap is_accepted e in
@@ -75,7 +73,7 @@ module _ (R : Rule) (C : ClockRule R) (c : Census) (m : List ℕ) (l : Streams) 
         })
 
     -- an accepted one, whose clock has the slot i
-    module _ (k : ReferenceClock) (reads : read_reference_clock v ≡ read.Accepted k) (i : ℕ) (s : SlotOf m (ref_meaning v k) (used_in c) i) where
+    module _ (k : ReferenceClock) (reads : read_reference_clock v ≡ Ok k) (i : ℕ) (s : SlotOf m (ref_meaning v k) (used_in c) i) where
       accepted : R.accepted v ≡ true
       accepted = is_accepted_lem R C v k reads
 
@@ -169,9 +167,9 @@ module _ (R : Rule) (C : ClockRule R) (c : Census) (m : List ℕ) (l : Streams) 
           (λ y. count_new_lem h (ltb-true (free_slot m (used_in c)) most_clocks y))
           (λ y. count_full h (ltb-false (free_slot m (used_in c)) most_clocks y)))
 
-    by_reading : (i : ℕ) → SlotFor m v (used_in c) i → (x : ReferenceClockRead) → read_reference_clock v ≡ x → Right R C (count_outcome c m v i) c m (count v) l
-    by_reading i s (read.Accepted k) e = count_accepted k e i (s.named k e)
-    by_reading i s (read.Refused q) e = count_refused q e i
+    by_reading : (i : ℕ) → SlotFor m v (used_in c) i → (x : Result ReferenceClock Refusal) → read_reference_clock v ≡ x → Right R C (count_outcome c m v i) c m (count v) l
+    by_reading i s (Ok k) e = count_accepted k e i (s.named k e)
+    by_reading i s (Err q) e = count_refused q e i
 
   pub count_right : (v : Value) (i : ℕ) → SlotFor m v (used_in c) i → Right R C (count_outcome c m v i) c m (count v) l
   unfolding count_outcome reasons first_of

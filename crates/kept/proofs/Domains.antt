@@ -1,9 +1,9 @@
 -- The counts of domains, of which one place is altered. Assumes nothing.
+use Rattle.std.specs.Prelude.{Option, Some, None}
 use Prim.Native.Nat.{ℕ, ◌+◌, ◌-◌, ◌≤◌, ◌<◌, min}
 use mathlib.Core.Path.{◌≡◌, refl, sym, ap, ◌∙◌}
 use mathlib.Core.List.{List}
 use mathlib.Core.Bool.{Bool, true, false, cond}
-use mathlib.Core.Option.{Option, none, some}
 use native.Mathlib.Omega.{arith}
 use lib.Dec.{eqb, ltb}
 use lib.ListN.{length, get_or, set, length-set}
@@ -17,8 +17,8 @@ use Rattle.naming.specs.Domain.{or_none}
 use Rattle.counts.specs.State.{plus, more, less}
 
 pub is_number : (k : ℕ) → k < 128 → (o : Option ℕ) → is k o ≡ eqb (or_none o) k
-is_number k h none = sym (ne_eqb 128 k (λ e. omega arith))
-is_number k h (some n) = refl
+is_number k h None = sym (ne_eqb 128 k (λ e. omega arith))
+is_number k h (Some n) = refl
 
 pub bit_of : (b : Bool) → cond b 1 0 ≡ bit b
 bit_of true = refl

@@ -1,4 +1,5 @@
 -- What every call owes, and what looking for a slot tells of a census that keeps a list. Assumes nothing.
+use Rattle.std.specs.Prelude.{Ok, Err}
 use Prim.Native.Nat.{ℕ, ◌+◌, ◌-◌, ◌≤◌, ◌<◌, min}
 use mathlib.Core.Path.{◌≡◌, refl, sym, ap, ◌∙◌}
 use mathlib.Core.List.{List}
@@ -9,7 +10,6 @@ use lib.ListN.{length, get_or}
 use borrow.Author.Tests.{ne_eqb, eqb-false, not-true}
 use Rattle.text.proofs.Bools.{by_bool, clash, both, and_left, and_right}
 use Rattle.clock.specs.declared.ReferenceClock.{ReferenceClock}
-use Rattle.clock.specs.declared.ReferenceClockRead.TheVariants.{Accepted}
 use Rattle.meaning.specs.ReferenceClock.{read_reference_clock}
 use Rattle.meaning.specs.Meaning.{ref_meaning}
 use Rattle.equal.specs.Alike.{OneClock, hosts_alike}
@@ -22,7 +22,6 @@ use Rattle.streams.specs.Streams.{Streams, bit, number_of, in_domain}
 use Rattle.streams.specs.Calls.{Call, first_of, reasons, answer, next, after}
 use Rattle.streams.specs.declared.Uncounted.{Uncounted}
 use Rattle.streams.specs.declared.Uncounted.TheVariants.{NoMemory}
-use Rattle.streams.specs.declared.Verdict.TheVariants.{Done, Refused}
 use Rattle.streams.specs.Private.Entries.{names}
 use Rattle.streams.proofs.Lists.{number_most}
 use Rattle.streams.proofs.Sums.{First, first_tells}
@@ -43,7 +42,7 @@ module _ (R : Rule) (C : ClockRule R) where
   pub G : Lawful R
   G = is_lawful R C
 
-  pub is_accepted_lem : (v : Value) (k : ReferenceClock) → read_reference_clock v ≡ Accepted k → R.accepted v ≡ true
+  pub is_accepted_lem : (v : Value) (k : ReferenceClock) → read_reference_clock v ≡ Ok k → R.accepted v ≡ true
   is_accepted_lem v k e = C.accepted v ∙ ap is_accepted e
 
   -- what a call's outcome owes
@@ -52,16 +51,16 @@ module _ (R : Rule) (C : ClockRule R) where
     pub keeps : Keeps R (called_with o c).census (memory_after o m) (after R limits (length m) k l)
 
   module _ {o : Outcome} {c : Census} {m : List ℕ} {k : Call} {l : Streams} where
-    pub right_refuse : (why : Uncounted) → o ≡ refuses why → answer R limits (length m) k l ≡ Refused why → Keeps R c m l → Right o c m k l
+    pub right_refuse : (why : Uncounted) → o ≡ refuses why → answer R limits (length m) k l ≡ Err why → Keeps R c m l → Right o c m k l
     unfolding after
     right_refuse why e f w = rw e (record { answered = sym f; keeps = simp f w })
 
-    pub right_leave : (c' : Census) (m' : List ℕ) → o ≡ leaves c' m' → answer R limits (length m) k l ≡ Done → Keeps R c' m' (next R limits k l)
+    pub right_leave : (c' : Census) (m' : List ℕ) → o ≡ leaves c' m' → answer R limits (length m) k l ≡ (Ok tt) → Keeps R c' m' (next R limits k l)
         → Right o c m k l
     unfolding after
     right_leave c' m' e f w = rw e (record { answered = sym f; keeps = simp f w })
 
-  pub short_answer : (m : List ℕ) (k : Call) (l : Streams) → ltb (length m) least_memory ≡ true → answer R limits (length m) k l ≡ Refused NoMemory
+  pub short_answer : (m : List ℕ) (k : Call) (l : Streams) → ltb (length m) least_memory ≡ true → answer R limits (length m) k l ≡ Err NoMemory
   unfolding answer first_of
   short_answer m k l t = simp t
 
@@ -71,7 +70,7 @@ module _ (R : Rule) (C : ClockRule R) where
   long_answer m k l t = simp t
 
   -- the slot of the clock k, which v names, among the first n
-  module _ (c : Census) (m : List ℕ) (n : ℕ) (P : Prints m n) (v : Value) (k : ReferenceClock) (reads : read_reference_clock v ≡ Accepted k) (i : ℕ)
+  module _ (c : Census) (m : List ℕ) (n : ℕ) (P : Prints m n) (v : Value) (k : ReferenceClock) (reads : read_reference_clock v ≡ Ok k) (i : ℕ)
       (s : SlotOf m (ref_meaning v k) n i) where
     named_there : (j : ℕ) → OfClock m (ref_meaning v k) j → names R (view c m) v j ≡ true
     named_there j o =
@@ -104,7 +103,7 @@ module _ (R : Rule) (C : ClockRule R) where
         }
 
   module _ (c : Census) (m : List ℕ) (l : Streams) (K : Keeps R c m l) where
-    pub found : (v : Value) (k : ReferenceClock) → read_reference_clock v ≡ Accepted k → (i : ℕ) → SlotOf m (ref_meaning v k) (used_in c) i
+    pub found : (v : Value) (k : ReferenceClock) → read_reference_clock v ≡ Ok k → (i : ℕ) → SlotOf m (ref_meaning v k) (used_in c) i
         → First (names R (view c m) v) (used_in c) i
     found = found_among c m (used_in c) K.prints
 
@@ -119,12 +118,12 @@ module _ (R : Rule) (C : ClockRule R) where
     domain_small d h = omega (arith, K.holds.stands.domains d h, number_most (has_domain R d) l)
 
     -- the domain number of the clock k, which v names
-    pub domain_is : (v : Value) (k : ReferenceClock) → read_reference_clock v ≡ Accepted k → (d : ℕ) → d < 128
+    pub domain_is : (v : Value) (k : ReferenceClock) → read_reference_clock v ≡ Ok k → (d : ℕ) → d < 128
         → eqb (or_none (domain_in k)) d ≡ has_domain R d v
     domain_is v k e d h = sym (is_number d h (domain_in k)) ∙ ap (is d) (sym (C.domain v ∙ accepted_domain v k e))
 
     -- one stream more, or less, of that domain
-    module _ (v : Value) (k : ReferenceClock) (reads : read_reference_clock v ≡ Accepted k) where
+    module _ (v : Value) (k : ReferenceClock) (reads : read_reference_clock v ≡ Ok k) where
       pub one_more_lem : length l < most_streams → (d : ℕ) → d < 128
           → get_or (more (or_none (domain_in k)) 1 c.domains) d 0 ≡ get_or c.domains d 0 + bit (has_domain R d v)
       one_more_lem s d h =

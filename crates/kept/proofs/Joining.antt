@@ -1,4 +1,5 @@
 -- Joining answers as the list does, and keeps it. Assumes nothing.
+use Rattle.std.specs.Prelude.{Result, Ok, Err}
 use Prim.Native.Nat.{ℕ, ◌+◌, ◌-◌, ◌*◌, ◌≤◌, ◌<◌, min}
 use mathlib.Core.Path.{◌≡◌, refl, sym, ap, ◌∙◌}
 use mathlib.Core.List.{List, map}
@@ -11,8 +12,6 @@ use borrow.Author.Tests.{eq-eqb, ne_eqb, eqb-true, eqb-false, lt-ltb, ltb-true, 
 use Rattle.text.proofs.Bools.{by_bool, clash}
 use Rattle.clock.specs.declared.Refusal.{Refusal}
 use Rattle.clock.specs.declared.ReferenceClock.{ReferenceClock}
-use Rattle.clock.specs.declared.ReferenceClockRead.{ReferenceClockRead}
-use Rattle.clock.specs.declared.ReferenceClockRead.TheVariants as read
 use Rattle.meaning.specs.ReferenceClock.{read_reference_clock}
 use Rattle.meaning.specs.Meaning.{ref_meaning}
 use Rattle.streams.specs.Rule.{Value, Rule, is, has_domain}
@@ -20,7 +19,6 @@ use Rattle.streams.specs.Limits.{limits, least_memory, most_clocks, most_streams
 use Rattle.streams.specs.Streams.{Streams, of_clock, moved, joined}
 use Rattle.streams.specs.Calls.{join, first_of, reasons, answer, next}
 use Rattle.streams.specs.declared.Uncounted.TheVariants.{NoMemory, NoStream}
-use Rattle.streams.specs.declared.Verdict.TheVariants.{Done, Refused}
 use Rattle.streams.specs.Book.{Stands}
 use Rattle.streams.specs.Private.Entries.{names}
 use Rattle.streams.proofs.Lists.{number_most, number_within, number_apart, number_none, length_map}
@@ -45,7 +43,7 @@ module _ (R : Rule) (C : ClockRule R) (c : Census) (m : List ℕ) (l : Streams) 
   S = K.holds.stands
 
   -- a refused value has no streams
-  pub no_streams : (v : Value) (q : Refusal) → read_reference_clock v ≡ read.Refused q → of_clock R v l ≡ 0
+  pub no_streams : (v : Value) (q : Refusal) → read_reference_clock v ≡ Err q → of_clock R v l ≡ 0
   no_streams v q e =
       number_none (R.same v) (λ s. by_bool (R.same v s) (λ y. clash (cc ((G R C).first v s y, C.accepted v ∙ ap is_accepted e))) (λ y. y)) l
 
@@ -53,16 +51,16 @@ module _ (R : Rule) (C : ClockRule R) (c : Census) (m : List ℕ) (l : Streams) 
     enough : least_memory ≤ length m
     enough = ltb-false (length m) least_memory t
 
-    no_first : of_clock R v l ≡ 0 → answer R limits (length m) (join v w) l ≡ Refused NoStream
+    no_first : of_clock R v l ≡ 0 → answer R limits (length m) (join v w) l ≡ Err NoStream
     unfolding reasons first_of
     no_first e = long_answer R C m (join v w) l t ∙ simp e
 
-    no_second : of_clock R w l ≡ 0 → answer R limits (length m) (join v w) l ≡ Refused NoStream
+    no_second : of_clock R w l ≡ 0 → answer R limits (length m) (join v w) l ≡ Err NoStream
     unfolding reasons first_of
     no_second e = long_answer R C m (join v w) l t ∙ by_bool (ltb 0 (of_clock R v l)) (λ y. simp (y, e)) (λ y. simp y)
 
     -- two accepted values, whose clocks have the slots i and j
-    module _ (from into : ReferenceClock) (reads : read_reference_clock v ≡ read.Accepted from) (reads' : read_reference_clock w ≡ read.Accepted into)
+    module _ (from into : ReferenceClock) (reads : read_reference_clock v ≡ Ok from) (reads' : read_reference_clock w ≡ Ok into)
         (i j : ℕ) (s : SlotOf m (ref_meaning v from) (used_in c) i) (s' : SlotOf m (ref_meaning w into) (used_in c) j) where
       -- both are there
       module _ (hi : i < used_in c) (hj : j < used_in c) where
@@ -90,7 +88,7 @@ module _ (R : Rule) (C : ClockRule R) (c : Census) (m : List ℕ) (l : Streams) 
         qj : R.same w (value_at m j) ≡ true
         qj = named_same R (G R C) most_clocks (view c m) l S w j hj ej
 
-        join_answer : answer R limits (length m) (join v w) l ≡ Done
+        join_answer : answer R limits (length m) (join v w) l ≡ (Ok tt)
         unfolding reasons first_of
         join_answer =
             long_answer R C m (join v w) l t
@@ -204,12 +202,12 @@ module _ (R : Rule) (C : ClockRule R) (c : Census) (m : List ℕ) (l : Streams) 
           right_refuse R C NoStream (simp (t, reads, reads', p))
           (no_first (unnamed_count R (G R C) most_clocks (view c m) l S v (λ x g. (found R C c m l K v from reads i s).none x (omega arith)))) K)
 
-    by_reading : (i j : ℕ) → SlotFor m v (used_in c) i → SlotFor m w (used_in c) j → (x y : ReferenceClockRead) → read_reference_clock v ≡ x
+    by_reading : (i j : ℕ) → SlotFor m v (used_in c) i → SlotFor m w (used_in c) j → (x y : Result ReferenceClock Refusal) → read_reference_clock v ≡ x
         → read_reference_clock w ≡ y → Right R C (join_outcome c m v w i j) c m (join v w) l
     unfolding join_outcome
-    by_reading i j s u (read.Accepted from) (read.Accepted into) e f = join_accepted from into e f i j (s.named from e) (u.named into f)
-    by_reading i j s u (read.Accepted from) (read.Refused q) e f = right_refuse R C NoStream (simp (t, e, f)) (no_second (no_streams w q f)) K
-    by_reading i j s u (read.Refused q) y e f = right_refuse R C NoStream (simp (t, e)) (no_first (no_streams v q e)) K
+    by_reading i j s u (Ok from) (Ok into) e f = join_accepted from into e f i j (s.named from e) (u.named into f)
+    by_reading i j s u (Ok from) (Err q) e f = right_refuse R C NoStream (simp (t, e, f)) (no_second (no_streams w q f)) K
+    by_reading i j s u (Err q) y e f = right_refuse R C NoStream (simp (t, e)) (no_first (no_streams v q e)) K
 
   pub join_right : (v w : Value) (i j : ℕ) → SlotFor m v (used_in c) i → SlotFor m w (used_in c) j → Right R C (join_outcome c m v w i j) c m (join v w) l
   unfolding join_outcome

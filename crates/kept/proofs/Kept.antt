@@ -1,4 +1,5 @@
 -- Calls one after another from a fresh census: each answers as a plain list would, and the counts are those of the list. Assumes nothing.
+use Rattle.std.specs.Prelude.{Result, Ok, Err}
 use Prim.Native.Nat.{ℕ, ◌+◌, ◌≤◌, ◌<◌, min}
 use mathlib.Core.Path.{◌≡◌, refl, sym, ap, ◌∙◌}
 use mathlib.Core.List.{List, []}
@@ -9,8 +10,6 @@ use lib.ListN.{length, get_or, get_or-replicate, length-replicate}
 use borrow.Author.Tests.{lt-ltb, ltb-true, ltb-false}
 use Rattle.text.proofs.Bools.{by_bool, clash}
 use Rattle.clock.specs.declared.ReferenceClock.{ReferenceClock}
-use Rattle.clock.specs.declared.ReferenceClockRead.{ReferenceClockRead}
-use Rattle.clock.specs.declared.ReferenceClockRead.TheVariants as read
 use Rattle.meaning.specs.ReferenceClock.{read_reference_clock}
 use Rattle.meaning.specs.Meaning.{ref_meaning}
 use Rattle.streams.specs.Rule.{Value, Rule}
@@ -19,7 +18,6 @@ use Rattle.streams.specs.Streams.{Streams, number_of, of_clock, refused_in, cloc
 use Rattle.streams.specs.Sums.{sum}
 use Rattle.streams.specs.Calls.{Call, count, withdraw, join, answer, after, counted_by, withdrawn_by}
 use Rattle.streams.specs.declared.Uncounted.{Uncounted}
-use Rattle.streams.specs.declared.Verdict.TheVariants.{Done, Refused}
 use Rattle.streams.proofs.Total.{list_sum, list_parts}
 use Rattle.streams.proofs.Widened.{widened}
 use Rattle.streams.proofs.Book.{standing, clock_sum_lem, named_count, unnamed_count}
@@ -38,7 +36,6 @@ use Rattle.joining.specs.Joining.{join_outcome}
 use Rattle.uniting.specs.Uniting.{Unites}
 use Rattle.uniting.proofs.Settled.{unites_done, unites_short}
 use Rattle.asking.specs.Asking.{streams_in, streams_read, asked, AsksStreams}
-use Rattle.asking.specs.declared.Asked.{Asked}
 use Rattle.kept.specs.Holds.{view, HeldBefore}
 use Rattle.kept.specs.Private.Keeps.{Keeps}
 use Rattle.kept.specs.Kept.{Makes, Calls, fresh, united, more, AnswersAsList, Sum, RefusedChangesNothing, QuestionsAsked, QuestionsAsList}
@@ -48,9 +45,10 @@ use Rattle.kept.proofs.Counting.{count_right}
 use Rattle.kept.proofs.Withdrawing.{withdraw_right}
 use Rattle.kept.proofs.Joining.{join_right, no_streams}
 use Rattle.kept.proofs.Uniting.{united_keeps, united_stays as stays}
+use Rattle.clock.specs.declared.Refusal.{Refusal}
 
 -- an outcome that refuses leaves all as it was
-does_nothing : (o : Outcome) (c : Census) (m : List ℕ) (r : Called) (m' : List ℕ) (why : Uncounted) → Does o c m r m' → r.verdict ≡ Refused why
+does_nothing : (o : Outcome) (c : Census) (m : List ℕ) (r : Called) (m' : List ℕ) (why : Uncounted) → Does o c m r m' → r.verdict ≡ Err why
     → (r.census ≡ c) × (m' ≡ m)
 does_nothing (leaves c' n) c m r m' why d e = clash (cc (ap (λ (x : Called). x.verdict) d.result, e))
 does_nothing (refuses w) c m r m' why d e = (ap (λ (x : Called). x.census) d.result, d.memory)
@@ -126,11 +124,11 @@ module _ (R : Rule) (C : ClockRule R) where
 
   module _ (c : Census) (m : List ℕ) (l : Streams) (K : Keeps R c m l) where
     -- the streams of a value's clock
-    streams_right : (v : Value) (i : ℕ) → SlotFor m v (used_in c) i → (x : ReferenceClockRead) → read_reference_clock v ≡ x
+    streams_right : (v : Value) (i : ℕ) → SlotFor m v (used_in c) i → (x : Result ReferenceClock Refusal) → read_reference_clock v ≡ x
         → streams_read c m i x ≡ of_clock R v l
     unfolding streams_in
-    streams_right v i s (read.Refused q) e = sym (no_streams R C c m l K v q e)
-    streams_right v i s (read.Accepted k) e =
+    streams_right v i s (Err q) e = sym (no_streams R C c m l K v q e)
+    streams_right v i s (Ok k) e =
         let f = found R C c m l K v k e i (s.named k e) in
         by_bool (ltb i (used_in c))
         (λ t.

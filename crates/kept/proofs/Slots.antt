@@ -1,4 +1,5 @@
 -- A slot that a call changes, as a change of the book; and the fingerprints stay those of the values. Assumes nothing.
+use Rattle.std.specs.Prelude.{Ok}
 use Prim.Native.Nat.{ℕ, ◌+◌, ◌*◌, ◌≤◌, ◌<◌, max}
 use mathlib.Core.Path.{◌≡◌, refl, sym, ap, ◌∙◌}
 use mathlib.Core.List.{List}
@@ -10,7 +11,6 @@ use lib.Seq.{sets}
 use borrow.Author.Tests.{eqb-true, eqb-false, ltb-true, ltb-false}
 use Rattle.text.proofs.Bools.{by_bool}
 use Rattle.clock.specs.declared.ReferenceClock.{ReferenceClock}
-use Rattle.clock.specs.declared.ReferenceClockRead.TheVariants.{Accepted}
 use Rattle.meaning.specs.ReferenceClock.{read_reference_clock}
 use Rattle.meaning.specs.Meaning.{ref_meaning}
 use Rattle.equal.specs.Fingerprint.{fingerprint, host_print}
@@ -26,9 +26,9 @@ use Rattle.kept.specs.Holds.{view}
 use Rattle.kept.specs.Private.Keeps.{Prints}
 
 -- a slot with the value v and the fingerprint of its clock
-pub print_is : (m : List ℕ) (i : ℕ) (v : List ℕ) (k : ReferenceClock) → read_reference_clock v ≡ Accepted k → value_at m i ≡ v
+pub print_is : (m : List ℕ) (i : ℕ) (v : List ℕ) (k : ReferenceClock) → read_reference_clock v ≡ Ok k → value_at m i ≡ v
     → print_at m i ≡ fingerprint host_print (ref_meaning v k)
-    → (d : ReferenceClock) → read_reference_clock (value_at m i) ≡ Accepted d → print_at m i ≡ fingerprint host_print (ref_meaning (value_at m i) d)
+    → (d : ReferenceClock) → read_reference_clock (value_at m i) ≡ Ok d → print_at m i ≡ fingerprint host_print (ref_meaning (value_at m i) d)
 print_is m i v k reads ev ep d q =
     let same : k ≡ d = one_record k d (sym reads ∙ ap read_reference_clock (sym ev) ∙ q) in
     ep ∙ ap (λ (y : ReferenceClock). fingerprint host_print (ref_meaning v y)) same
@@ -36,8 +36,8 @@ print_is m i v k reads ev ep d q =
 
 -- what the print of a slot says is carried over to a memory in which the slot says the same
 pub print_carried : (m m' : List ℕ) (j : ℕ) → print_at m' j ≡ print_at m j → value_at m' j ≡ value_at m j
-    → ((k : ReferenceClock) → read_reference_clock (value_at m j) ≡ Accepted k → print_at m j ≡ fingerprint host_print (ref_meaning (value_at m j) k))
-    → (k : ReferenceClock) → read_reference_clock (value_at m' j) ≡ Accepted k → print_at m' j ≡ fingerprint host_print (ref_meaning (value_at m' j) k)
+    → ((k : ReferenceClock) → read_reference_clock (value_at m j) ≡ Ok k → print_at m j ≡ fingerprint host_print (ref_meaning (value_at m j) k))
+    → (k : ReferenceClock) → read_reference_clock (value_at m' j) ≡ Ok k → print_at m' j ≡ fingerprint host_print (ref_meaning (value_at m' j) k)
 print_carried m m' j ep ev p k e =
     ep ∙ p k (ap read_reference_clock (sym ev) ∙ e) ∙ ap (λ (v : List ℕ). fingerprint host_print (ref_meaning v k)) (sym ev)
 
@@ -70,7 +70,7 @@ module _ (m : List ℕ) (i n : ℕ) (inside : i * slot_size + slot_size ≤ leng
       (p j g (ap (λ (y : ℕ). eqb y 0) (sym (other_streams m i (i * slot_size) (quad n) (recounts_inside m i n) j x)) ∙ f)))
 
 -- or becomes that of a clock
-module _ (m : List ℕ) (i : ℕ) (v : List ℕ) (k : ReferenceClock) (reads : read_reference_clock v ≡ Accepted k) (inside : i * slot_size + slot_size ≤ length m)
+module _ (m : List ℕ) (i : ℕ) (v : List ℕ) (k : ReferenceClock) (reads : read_reference_clock v ≡ Ok k) (inside : i * slot_size + slot_size ≤ length m)
     (fits : length v ≤ 1024) where
   abbrev print : ℕ
   print = fingerprint host_print (ref_meaning v k)

@@ -1,4 +1,5 @@
 -- Uniting makes of a census from before one that keeps the same list under today's rule, and leaves one that keeps it already. Assumes nothing.
+use Rattle.std.specs.Prelude.{Ok}
 use Prim.Native.Nat.{ℕ, suc, ◌+◌, ◌*◌, ◌≤◌, ◌<◌}
 use mathlib.Core.Path.{◌≡◌, refl, sym, ap, ◌∙◌}
 use mathlib.Core.List.{List}
@@ -10,7 +11,6 @@ use lib.Seq.{length-sets}
 use borrow.Author.Tests.{eqb-true, eqb-false, ltb-true, ltb-false, not-true}
 use Rattle.text.proofs.Bools.{by_bool, clash, both, and_left, and_right}
 use Rattle.clock.specs.declared.ReferenceClock.{ReferenceClock}
-use Rattle.clock.specs.declared.ReferenceClockRead.TheVariants.{Accepted}
 use Rattle.meaning.specs.ReferenceClock.{read_reference_clock}
 use Rattle.meaning.specs.Meaning.{ref_meaning}
 use Rattle.equal.specs.Fingerprint.{fingerprint, host_print}
@@ -71,7 +71,7 @@ reprints m i p inside small =
 
 -- the fingerprints of the first n and of one more
 prints_further : (m : List ℕ) (n : ℕ) → Prints m n
-    → (is_free m n ≡ false → (k : ReferenceClock) → read_reference_clock (value_at m n) ≡ Accepted k
+    → (is_free m n ≡ false → (k : ReferenceClock) → read_reference_clock (value_at m n) ≡ Ok k
     → print_at m n ≡ fingerprint host_print (ref_meaning (value_at m n) k))
     → Prints m (suc n)
 prints_further m n P last i h f =
@@ -100,7 +100,7 @@ module _ (R : Rule) (C : ClockRule R) (c : Census) (l : Streams) where
           prints = prints_further m n U.prints (λ live. clash (cc (f, live)));
         })
 
-    module _ (f : is_free m n ≡ false) (k : ReferenceClock) (reads : read_reference_clock (value_at m n) ≡ Accepted k) where
+    module _ (f : is_free m n ≡ false) (k : ReferenceClock) (reads : read_reference_clock (value_at m n) ≡ Ok k) where
       F : First (names R (view c m) (value_at m n)) n j
       F = found_among R C c m n U.prints (value_at m n) k reads j (s.named k reads)
 

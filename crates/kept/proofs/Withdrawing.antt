@@ -1,4 +1,5 @@
 -- Withdrawing answers as the list does, and keeps it. Assumes nothing.
+use Rattle.std.specs.Prelude.{Result, Ok, Err}
 use Prim.Native.Nat.{ℕ, ◌+◌, ◌-◌, ◌*◌, ◌≤◌, ◌<◌, min}
 use mathlib.Core.Path.{◌≡◌, refl, sym, ap, ◌∙◌}
 use mathlib.Core.List.{List}
@@ -11,8 +12,6 @@ use borrow.Author.Tests.{eqb-true, lt-ltb, le-ltb, ltb-true, ltb-false}
 use Rattle.text.proofs.Bools.{by_bool}
 use Rattle.clock.specs.declared.Refusal.{Refusal}
 use Rattle.clock.specs.declared.ReferenceClock.{ReferenceClock}
-use Rattle.clock.specs.declared.ReferenceClockRead.{ReferenceClockRead}
-use Rattle.clock.specs.declared.ReferenceClockRead.TheVariants as read
 use Rattle.meaning.specs.ReferenceClock.{read_reference_clock}
 use Rattle.meaning.specs.Meaning.{ref_meaning}
 use Rattle.streams.specs.Rule.{Value, Rule}
@@ -20,7 +19,6 @@ use Rattle.streams.specs.Limits.{limits, least_memory, most_clocks}
 use Rattle.streams.specs.Streams.{Streams, number_of, without, is_refused, refused_in, of_clock, like}
 use Rattle.streams.specs.Calls.{withdraw, first_of, reasons, answer, next}
 use Rattle.streams.specs.declared.Uncounted.TheVariants.{NoMemory, NoStream}
-use Rattle.streams.specs.declared.Verdict.TheVariants.{Done, Refused}
 use Rattle.streams.specs.Book.{Stands}
 use Rattle.streams.proofs.Lists.{number_most, number_alike, without_alike, length_without}
 use Rattle.streams.proofs.Sums.{over_zero}
@@ -47,16 +45,16 @@ module _ (R : Rule) (C : ClockRule R) (c : Census) (m : List ℕ) (l : Streams) 
     enough : least_memory ≤ length m
     enough = ltb-false (length m) least_memory t
 
-    some_answer : 0 < number_of (like R v) l → answer R limits (length m) (withdraw v) l ≡ Done
+    some_answer : 0 < number_of (like R v) l → answer R limits (length m) (withdraw v) l ≡ (Ok tt)
     unfolding reasons first_of
     some_answer h = long_answer R C m (withdraw v) l t ∙ simp (lt-ltb 0 (number_of (like R v) l) h)
 
-    none_answer : number_of (like R v) l ≡ 0 → answer R limits (length m) (withdraw v) l ≡ Refused NoStream
+    none_answer : number_of (like R v) l ≡ 0 → answer R limits (length m) (withdraw v) l ≡ Err NoStream
     unfolding reasons first_of
     none_answer e = long_answer R C m (withdraw v) l t ∙ simp (le-ltb 0 (number_of (like R v) l) (omega arith))
 
     -- a refused value
-    withdraw_refused_lem : (q : Refusal) → read_reference_clock v ≡ read.Refused q → (i : ℕ) → Right R C (withdraw_outcome c m v i) c m (withdraw v) l
+    withdraw_refused_lem : (q : Refusal) → read_reference_clock v ≡ Err q → (i : ℕ) → Right R C (withdraw_outcome c m v i) c m (withdraw v) l
     unfolding withdraw_outcome withdraw_refused next
     withdraw_refused_lem q e i =
         let a : R.accepted v ≡ false = C.accepted v ∙ ap is_accepted e in
@@ -80,7 +78,7 @@ module _ (R : Rule) (C : ClockRule R) (c : Census) (m : List ℕ) (l : Streams) 
         })))
 
     -- an accepted one, whose clock has the slot i
-    module _ (k : ReferenceClock) (reads : read_reference_clock v ≡ read.Accepted k) (i : ℕ) (s : SlotOf m (ref_meaning v k) (used_in c) i) where
+    module _ (k : ReferenceClock) (reads : read_reference_clock v ≡ Ok k) (i : ℕ) (s : SlotOf m (ref_meaning v k) (used_in c) i) where
       a : R.accepted v ≡ true
       a = is_accepted_lem R C v k reads
 
@@ -124,10 +122,10 @@ module _ (R : Rule) (C : ClockRule R) (c : Census) (m : List ℕ) (l : Streams) 
           (λ q. withdraw_one (ltb-true i (used_in c) q))
           (λ q. withdraw_none (ltb-false i (used_in c) q))
 
-    by_reading : (i : ℕ) → SlotFor m v (used_in c) i → (x : ReferenceClockRead) → read_reference_clock v ≡ x
+    by_reading : (i : ℕ) → SlotFor m v (used_in c) i → (x : Result ReferenceClock Refusal) → read_reference_clock v ≡ x
         → Right R C (withdraw_outcome c m v i) c m (withdraw v) l
-    by_reading i s (read.Accepted k) e = withdraw_accepted k e i (s.named k e)
-    by_reading i s (read.Refused q) e = withdraw_refused_lem q e i
+    by_reading i s (Ok k) e = withdraw_accepted k e i (s.named k e)
+    by_reading i s (Err q) e = withdraw_refused_lem q e i
 
   pub withdraw_right : (v : Value) (i : ℕ) → SlotFor m v (used_in c) i → Right R C (withdraw_outcome c m v i) c m (withdraw v) l
   unfolding withdraw_outcome

@@ -1,11 +1,10 @@
 -- The census answers as a plain list of the streams would. `proofs/Kept.antt` proves each of these statements.
-use Rattle.std.specs.Prelude.{ℕ, ◌+◌, ◌≤◌, ◌<◌, ◌≡◌, List, [], length}
+use Rattle.std.specs.Prelude.{ℕ, ◌+◌, ◌≤◌, ◌<◌, ◌≡◌, List, [], length, Result, Err}
 use Rattle.streams.specs.Rule.{Rule}
 use Rattle.streams.specs.Limits.{limits, least_memory}
 use Rattle.streams.specs.Streams.{Streams, number_of, of_clock, refused_in, in_domain, clocks_in}
 use Rattle.streams.specs.Calls.{Call, count, withdraw, join, answer, after, counted_by, withdrawn_by}
 use Rattle.streams.specs.declared.Uncounted.{Uncounted}
-use Rattle.streams.specs.declared.Verdict.TheVariants.{Refused}
 use Rattle.naming.specs.ClockRule.{ClockRule}
 use Rattle.slots.specs.Slot.{taken_slots, stream_sum}
 use Rattle.counts.specs.State.{fresh_census, used_in, domain_count}
@@ -16,7 +15,6 @@ use Rattle.withdrawing.specs.Withdrawing.{Withdraws}
 use Rattle.joining.specs.Joining.{Joins}
 use Rattle.uniting.specs.Uniting.{Unites}
 use Rattle.asking.specs.Asking.{asked, AsksStreams}
-use Rattle.asking.specs.declared.Asked.{Asked}
 use Rattle.kept.specs.Holds.{HeldBefore}
 
 -- a call on a census beside its memory, with the result and the memory that the contract of `count`, `withdraw` or `join` gives
@@ -50,13 +48,13 @@ Sum =
 -- a refused call changes neither the census nor a byte of the memory, whatever they hold
 abbrev pub RefusedChangesNothing : Type 0
 RefusedChangesNothing =
-    (k : Call) (c : Census) (m : List ℕ) (r : Called) (m' : List ℕ) (why : Uncounted) → Makes k c m r m' → r.verdict ≡ Refused why
+    (k : Call) (c : Census) (m : List ℕ) (r : Called) (m' : List ℕ) (why : Uncounted) → Makes k c m r m' → r.verdict ≡ Err why
     → (r.census ≡ c) × (m' ≡ m)
 
 -- every question is answered as the list would
 pub record QuestionsAsked (R : Rule) (c : Census) (m : List ℕ) (l : Streams) : Type 0 where
   -- the streams of a value's clock
-  pub streams : (v : List ℕ) (r : Asked) → AsksStreams c m v r → r ≡ asked m (of_clock R v l)
+  pub streams : (v : List ℕ) (r : Result ℕ Uncounted) → AsksStreams c m v r → r ≡ asked m (of_clock R v l)
   -- the clocks that have streams, and their counts added up
   pub clocks : taken_slots m (used_in c) ≡ clocks_in R l
   pub clock_sum_lem : stream_sum m (used_in c) ≡ number_of R.accepted l

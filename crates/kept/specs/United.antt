@@ -1,11 +1,10 @@
 -- A census from before is one under today's rule once it is united: not a stream is lost, and no count by value moves. `proofs/Kept.antt` proves each of these
 -- statements.
-use Rattle.std.specs.Prelude.{ℕ, ◌≤◌, ◌<◌, ◌≡◌, List, false, length}
+use Rattle.std.specs.Prelude.{ℕ, ◌≤◌, ◌<◌, ◌≡◌, List, false, length, Ok}
 use Rattle.questions.specs.SameClock.{SameClock}
 use Rattle.streams.specs.Rule.{Rule}
 use Rattle.streams.specs.Limits.{least_memory}
 use Rattle.streams.specs.Streams.{Streams}
-use Rattle.streams.specs.declared.Verdict.TheVariants.{Done}
 use Rattle.naming.specs.ClockRule.{ClockRule, RuleBefore}
 use Rattle.slots.specs.Slot.{value_at, is_free, stream_sum}
 use Rattle.counts.specs.State.{used_in}
@@ -26,7 +25,7 @@ BeforeHeld = (Q R : Rule) → RuleBefore Q → ClockRule R → (c : Census) (m :
 
 -- what uniting owes of the census c beside the memory m, which held the streams l
 pub record UnitesBefore (R : Rule) (c : Census) (m : List ℕ) (l : Streams) (r : Called) (m' : List ℕ) : Type 0 where
-  pub verdict : r.verdict ≡ Done
+  pub verdict : r.verdict ≡ (Ok tt)
   -- no domain's count moves, nor the refused count, nor the total
   pub census : r.census ≡ c
   -- nor the sum of the clock counts

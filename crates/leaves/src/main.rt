@@ -1,73 +1,59 @@
 // Says of each line of standard input, of its first 65,536 bytes, what each of the small readers makes of it; and how many lines there were.
 #![tactic(auto)]
 
-ghost use Rattle.std.specs.Prelude.{◌≤◌, length};
-
-use eui64::{BrokenRule, Eui64Read, Fault};
-use number::{Number, Reason};
+use console::{print_decimal, print_hex, write_all};
+use eui64::{BrokenRule, Fault};
+use number::Reason;
 use std::io;
 use std::io::{Read, Write};
-use utf8::Utf8;
-
-fn say(out: &mut impl Write, word: &[u8]) -> io::Result<()> {
-    console::write_all(out, word)
-}
-
-fn say_number(out: &mut impl Write, n: u64) -> io::Result<()> {
-    console::print_decimal(out, n)
-}
 
 fn say_utf8(out: &mut impl Write, line: &[u8]) -> io::Result<()> {
-    say(out, b"utf8=")?;
+    write_all(out, b"utf8=")?;
     match utf8::check_utf8(line) {
-        Utf8::Well => say(out, b"ok"),
-        Utf8::Ill(at) => say_number(out, at as u64),
+        Ok(()) => write_all(out, b"ok"),
+        Err(at) => print_decimal(out, at as u64),
     }
 }
 
 fn say_reason(out: &mut impl Write, reason: Reason) -> io::Result<()> {
     match reason {
-        Reason::Empty => say(out, b"empty"),
-        Reason::Digit => say(out, b"digit"),
-        Reason::Size => say(out, b"size"),
+        Reason::Empty => write_all(out, b"empty"),
+        Reason::Digit => write_all(out, b"digit"),
+        Reason::Size => write_all(out, b"size"),
     }
 }
 
 fn say_port(out: &mut impl Write, line: &[u8]) -> io::Result<()> {
-    say(out, b" port=")?;
+    write_all(out, b" port=")?;
     match number::read_number(line, 65535) {
-        Number::Value(n) => say_number(out, n as u64),
-        Number::Refused(reason) => say_reason(out, reason),
+        Ok(n) => print_decimal(out, u64::from(n)),
+        Err(reason) => say_reason(out, reason),
     }
 }
 
 fn say_fault(out: &mut impl Write, fault: Fault) -> io::Result<()> {
-    let rule = fault.rule;
-    match rule {
-        BrokenRule::Length => say(out, b"length"),
-        BrokenRule::SegmentLength => say(out, b"segment"),
-        BrokenRule::SegmentDigits => say(out, b"digits"),
+    match fault.rule {
+        BrokenRule::Length => write_all(out, b"length"),
+        BrokenRule::SegmentLength => write_all(out, b"segment"),
+        BrokenRule::SegmentDigits => write_all(out, b"digits"),
     }?;
-    say(out, b"@")?;
-    say_number(out, fault.place.start as u64)?;
-    say(out, b"+")?;
-    say_number(out, fault.place.len as u64)
+    write!(out, "@{}+{}", fault.place.start, fault.place.len)
 }
 
 fn say_eui64(out: &mut impl Write, line: &[u8]) -> io::Result<()> {
-    say(out, b" eui64=")?;
+    write_all(out, b" eui64=")?;
     match eui64::read_eui64(line) {
-        Eui64Read::Id(id) => console::print_hex(out, id),
-        Eui64Read::Refused(fault) => say_fault(out, fault),
+        Ok(id) => print_hex(out, id),
+        Err(fault) => say_fault(out, fault),
     }
 }
 
 fn say_address(out: &mut impl Write, line: &[u8]) -> io::Result<()> {
-    say(out, b" ip=")?;
+    write_all(out, b" ip=")?;
     if ipaddr::is_ip_address(line) {
-        say(out, b"yes\n")
+        write_all(out, b"yes\n")
     } else {
-        say(out, b"no\n")
+        write_all(out, b"no\n")
     }
 }
 
@@ -79,45 +65,29 @@ fn say_line(out: &mut impl Write, line: &[u8]) -> io::Result<()> {
 }
 
 // A last line without a line end counts if it is not empty.
-fn say_lines(out: &mut impl Write, input: &[u8]) -> io::Result<u64>
-    requires { length input.now ≤ 65536 }
-{
+fn say_lines(out: &mut impl Write, input: &[u8]) -> io::Result<u64> {
     let mut lines: u64 = 0;
-    let mut at: usize = 0;
-    while at < input.len() {
-        let len = search::find(&input[at..], b'\n');
-        let end = at + len;
-        say_line(out, &input[at..end])?;
-        lines += 1;
-        at = end + 1;
+    for line in input.split_inclusive(|b| *b == b'\n') {
+        say_line(out, line.strip_suffix(b"\n").unwrap_or(line))?;
+        lines = lines.saturating_add(1);
     }
     Ok(lines)
 }
 
-// Whether a read fails: at the end of the input it answers 0.
-fn is_input_broken(input: &mut impl Read) -> bool {
-    let mut one = [0u8; 1];
-    input.read(&mut one).is_err()
-}
-
-fn say_broken(errors: &mut impl Write) {
-    let _ = console::write_all(errors, b"the input could not be read\n");
+// What the input begins with, as much as the buffer has room for, if no read fails: at the end of the input one more answers 0.
+fn read_front<'a>(input: &mut impl Read, buffer: &'a mut [u8]) -> io::Result<&'a [u8]> {
+    let len = console::read_full(input, buffer)?;
+    input.read(&mut [0u8; 1])?;
+    Ok(&buffer[..len])
 }
 
 fn main(rt: HostRuntime) -> io::Result<()> {
-    let mut stdin = rt.stdin();
     let mut stdout = rt.stdout();
     let mut buffer = console::large_buffer();
-    let Ok(n) = console::read_full(&mut stdin, &mut buffer) else {
-        say_broken(&mut rt.stderr());
+    let Ok(input) = read_front(&mut rt.stdin(), &mut buffer) else {
+        let _ = write_all(&mut rt.stderr(), b"the input could not be read\n");
         return Ok(());
     };
-    if is_input_broken(&mut stdin) {
-        say_broken(&mut rt.stderr());
-        return Ok(());
-    }
-    let lines = say_lines(&mut stdout, &buffer[..n])?;
-    say(&mut stdout, b"lines ")?;
-    say_number(&mut stdout, lines)?;
-    say(&mut stdout, b"\n")
+    let lines = say_lines(&mut stdout, input)?;
+    writeln!(stdout, "lines {lines}")
 }

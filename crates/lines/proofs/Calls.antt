@@ -1,4 +1,5 @@
 -- Calls one after another print what a reader prints that takes the same fragments, and so the report. Assumes nothing.
+use Rattle.std.specs.Prelude.{Result, Ok, Err}
 use Prim.Native.Nat.{ℕ, ◌+◌}
 use mathlib.Core.Path.{◌≡◌, refl, sym, ap, ◌∙◌}
 use mathlib.Core.List.{List, [], ◌++◌}
@@ -12,11 +13,10 @@ use Rattle.report.specs.Report.{totals_of}
 use Rattle.report.specs.Reader.{Reader, reader_of, feed_text, fed, close_text, session}
 use Rattle.report.proofs.Whole.{any_cutting}
 use Rattle.lines.specs.declared.State.{State}
-use Rattle.lines.specs.declared.Filling.{Filling}
-use Rattle.lines.specs.declared.Filling.TheVariants.{Filled, Refused}
 use Rattle.lines.specs.View.{view, state_of}
 use Rattle.lines.specs.Call.{Outcome, prints, refuses, feed_outcome, close_outcome, accepts, filling_of, room_of}
 use Rattle.lines.specs.Calls.{Calls, last, more, PrintTheReport}
+use Rattle.lines.specs.declared.Unfed.{Unfed}
 
 -- a call that filled n bytes printed a text, which stands at the room's front
 record Fills (o : Outcome) (room : List ℕ) (n : ℕ) : Type 0 where
@@ -25,11 +25,11 @@ record Fills (o : Outcome) (room : List ℕ) (n : ℕ) : Type 0 where
   accepted : accepts o (length room) ≡ true
   front : take n (room_of o room) ≡ text
 
-abbrev bytes_of : Filling → ℕ
-bytes_of (Filled n) = n
-bytes_of (Refused why) = 0
+abbrev bytes_of : Result ℕ Unfed → ℕ
+bytes_of (Ok n) = n
+bytes_of (Err why) = 0
 
-fills : (o : Outcome) (room : List ℕ) (n : ℕ) → filling_of o (length room) ≡ Filled n → Fills o room n
+fills : (o : Outcome) (room : List ℕ) (n : ℕ) → filling_of o (length room) ≡ Ok n → Fills o room n
 unfolding filling_of room_of accepts
 fills (refuses why) room n e = clash (cc)
 fills (prints t) room n e =

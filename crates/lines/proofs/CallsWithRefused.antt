@@ -1,10 +1,10 @@
 -- The statements of `specs/CallsWithRefused.antt`, proved: a refused call changes nothing, so that the others print what a reader prints that takes the same
 -- fragments. Assumes nothing.
+use Rattle.std.specs.Prelude.{Result, Ok, Err, Option, Some, None}
 use Prim.Native.Nat.{ℕ}
 use mathlib.Core.Path.{◌≡◌, refl, sym, ap, ◌∙◌}
 use mathlib.Core.List.{List, [], ◌++◌}
 use mathlib.Core.Bool.{true}
-use mathlib.Core.Option.{Option, none, some}
 use lib.ListN.{length, take, drop}
 use lib.Seq.{take_at}
 use Rattle.report.specs.Lines.{ended_from, open_from}
@@ -14,37 +14,35 @@ use Rattle.report.proofs.Whole.{any_cutting}
 use Rattle.lines.specs.declared.State.{State}
 use Rattle.lines.specs.declared.Fed.{Fed}
 use Rattle.lines.specs.declared.Unfed.{Unfed}
-use Rattle.lines.specs.declared.Filling.{Filling}
-use Rattle.lines.specs.declared.Filling.TheVariants.{Filled, Refused}
 use Rattle.lines.specs.View.{view, state_of}
 use Rattle.lines.specs.Number.{unfed_number, number_in, first_of}
 use Rattle.lines.specs.Owed.{against_feeding, against_closing, DoesAsOwed}
 use Rattle.lines.specs.CallsWithRefused.{CallsWithRefused, last, more, unfed, unclosed, PrintTheReportWithRefused, Unchanged, RefusedFeedingKeeps, RefusedClosingKeeps, ClosedForGood}
 use Rattle.lines.proofs.Owed.{feeding_is_owed, closing_is_owed}
 
-abbrev bytes_of : Filling → ℕ
-bytes_of (Filled n) = n
-bytes_of (Refused why) = 0
+abbrev bytes_of : Result ℕ Unfed → ℕ
+bytes_of (Ok n) = n
+bytes_of (Err why) = 0
 
 module _ {t : List ℕ} {o : Option ℕ} {next : Reader} {kept : List ℕ} {state : State} {memory room : List ℕ} {r : Fed} {memory₁ room₁ : List ℕ}
     (w : DoesAsOwed t o next kept state memory room r memory₁ room₁) where
   -- a call that filled n bytes owed no number, and its text stands at the room's front
-  none_owed : (n : ℕ) → r.filling ≡ Filled n → o ≡ none
+  none_owed : (n : ℕ) → r.filling ≡ Ok n → o ≡ None
   none_owed n e = sym w.number ∙ ap number_in e
 
-  front : (n : ℕ) → r.filling ≡ Filled n → take n room₁ ≡ t
+  front : (n : ℕ) → r.filling ≡ Ok n → take n room₁ ≡ t
   front n e =
       let f = none_owed n e in
       let k : length t ≡ n = ap bytes_of (sym (w.filled f) ∙ e) in
       ap (take n) (rw f at w.room) ∙ ap (λ (j : ℕ). take j (t ++ drop (length t) room)) (sym k) ∙ take_at t (drop (length t) room) (length t) refl
 
-  next_reader : (n : ℕ) → r.filling ≡ Filled n → view r.state memory₁ ≡ next
+  next_reader : (n : ℕ) → r.filling ≡ Ok n → view r.state memory₁ ≡ next
   next_reader n e = rw (none_owed n e) at w.reader
 
   -- a call that was refused owed a number, and nothing changed
-  unchanged : (why : Unfed) → r.filling ≡ Refused why → Unchanged state memory room r memory₁ room₁
+  unchanged : (why : Unfed) → r.filling ≡ Err why → Unchanged state memory room r memory₁ room₁
   unchanged why e =
-      let f : o ≡ some (unfed_number why) = sym w.number ∙ ap number_in e in
+      let f : o ≡ Some (unfed_number why) = sym w.number ∙ ap number_in e in
       record { state = rw f at w.state; memory = rw f at w.memory; room = rw f at w.room }
 
 pub refused_feeding_keeps : RefusedFeedingKeeps

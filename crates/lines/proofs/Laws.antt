@@ -1,4 +1,5 @@
 -- One law for each way out of this crate's functions, and the invariant of the loop over a fragment. Assumes nothing.
+use Rattle.std.specs.Prelude.{Ok, Err}
 use Prim.Native.Nat.{ℕ, suc, ◌+◌, ◌*◌, ◌-◌, ◌^◌, ◌≤◌, ◌<◌, min}
 use mathlib.Core.Path.{◌≡◌, refl, sym, ap, ◌∙◌}
 use mathlib.Core.List.{List, [], ◌∷◌, ◌++◌, append_assoc, append-nil}
@@ -32,7 +33,6 @@ use Rattle.briefreply.specs.Plain.{plain, plain_reply}
 use Rattle.briefreply.specs.declared.ReplySize.{ReplySize}
 use Rattle.briefreply.proofs.Laws.{plain_reply_lem, plain_cut}
 use Rattle.lines.specs.declared.State.{State}
-use Rattle.lines.specs.declared.Filling.TheVariants.{Filled, Refused}
 use Rattle.lines.specs.declared.Unfed.{Unfed}
 use Rattle.lines.specs.declared.Unfed.TheVariants.{Closed, OverLimit, NoRoom}
 use Rattle.lines.specs.declared.Progress.{Progress}
@@ -394,19 +394,19 @@ start_state = refl
 
 -- What a call does, by its outcome.
 module _ {o : Outcome} {next : Reader} {kept : List ℕ} {state : State} {memory room : List ℕ} where
-  does_refuse : {why : Unfed} → o ≡ refuses why → Does o next kept state memory room (record { filling = Refused why; state = state }) memory room
+  does_refuse : {why : Unfed} → o ≡ refuses why → Does o next kept state memory room (record { filling = Err why; state = state }) memory room
   unfolding filling_of room_of accepts
   does_refuse e = rw e (record { filling = refl; room = refl; memory = refl; state = refl; reader = refl })
 
   module _ {t : List ℕ} (e : o ≡ prints t) where
-    does_nothing : length room < length t → Does o next kept state memory room (record { filling = Refused NoRoom; state = state }) memory room
+    does_nothing : length room < length t → Does o next kept state memory room (record { filling = Err NoRoom; state = state }) memory room
     unfolding filling_of room_of accepts
     does_nothing h =
         let f : leb (length t) (length room) ≡ false = lt-leb (length t) (length room) h in
         rw e (record { filling = simp f; room = simp f; memory = simp f; state = simp f; reader = simp f })
 
     does_print : {n : ℕ} {state' : State} {room' : List ℕ} → length t ≤ length room → Prints t room 0 n room' → state' ≡ state_of next → view state' kept ≡ next
-        → Does o next kept state memory room (record { filling = Filled n; state = state' }) kept room'
+        → Does o next kept state memory room (record { filling = Ok n; state = state' }) kept room'
     unfolding filling_of room_of accepts
     does_print h p g v =
         let f : leb (length t) (length room) ≡ true = le-leb (length t) (length room) h in
@@ -440,12 +440,12 @@ memory_length n memory s =
 
 -- `feed`
 module _ (state : State) (memory s room : List ℕ) where
-  pub feed_closed : state.closed ≡ true → Feeds state memory s room (record { filling = Refused Closed; state = state }) memory room
+  pub feed_closed : state.closed ≡ true → Feeds state memory s room (record { filling = Err Closed; state = state }) memory room
   unfolding feed_outcome
   feed_closed c = does_refuse (simp c)
 
   module _ (c : state.closed ≡ false) where
-    pub feed_over : 4294967295 < state.read + length s → Feeds state memory s room (record { filling = Refused OverLimit; state = state }) memory room
+    pub feed_over : 4294967295 < state.read + length s → Feeds state memory s room (record { filling = Err OverLimit; state = state }) memory room
     unfolding feed_outcome
     feed_over h = does_refuse (simp (c, lt-ltb 4294967295 (state.read + length s) h))
 
@@ -458,13 +458,13 @@ module _ (state : State) (memory s room : List ℕ) where
       fits_same : z ≡ leb (length (feed_text (view state memory) s)) (length room)
       fits_same = f ∙ ap (λ (q : List ℕ). leb (length (printed (ended_from q s))) (length room)) (open_same state memory len e m)
 
-      pub feed_short : z ≡ false → Feeds state memory s room (record { filling = Refused NoRoom; state = state }) memory room
+      pub feed_short : z ≡ false → Feeds state memory s room (record { filling = Err NoRoom; state = state }) memory room
       feed_short g = does_nothing feed_prints (leb-false (length (feed_text (view state memory) s)) (length room) (sym fits_same ∙ g))
 
       pub feed_done : z ≡ true → (r : Ran) (memory' room' : List ℕ) → Runs memory len s room state.totals r memory' room'
           → Feeds state memory s room
           (record {
-            filling = Filled r.past.at;
+            filling = Ok r.past.at;
             state = record { len = r.len; totals = r.past.totals; read = state.read + length s; closed = false };
           }) memory' room'
       unfolding fed
@@ -483,7 +483,7 @@ module _ (state : State) (memory s room : List ℕ) where
 
 -- `close`
 module _ (state : State) (memory room : List ℕ) where
-  pub close_closed : state.closed ≡ true → Closes state memory room (record { filling = Refused Closed; state = state }) room
+  pub close_closed : state.closed ≡ true → Closes state memory room (record { filling = Err Closed; state = state }) room
   unfolding close_outcome
   close_closed c = does_refuse (simp c)
 
@@ -497,11 +497,11 @@ module _ (state : State) (memory room : List ℕ) where
     unfolding close_text
     close_length = rw (open_same state memory len e m) at f
 
-    pub close_short : length room < n → Closes state memory room (record { filling = Refused NoRoom; state = state }) room
+    pub close_short : length room < n → Closes state memory room (record { filling = Err NoRoom; state = state }) room
     close_short h = does_nothing close_prints (omega (arith, close_length))
 
     pub close_done : n ≤ length room → (r : Progress) (room' : List ℕ) → Finishes (take len memory) room state.totals r room'
-        → Closes state memory room (record { filling = Filled r.at; state = record { len = 0; totals = r.totals; read = state.read; closed = true } }) room'
+        → Closes state memory room (record { filling = Ok r.at; state = record { len = 0; totals = r.totals; read = state.read; closed = true } }) room'
     unfolding close_text closed
     close_done h r room' w =
         let x = rw (open_same state memory len e m) at w in

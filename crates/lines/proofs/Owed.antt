@@ -1,9 +1,9 @@
 -- The statements of `specs/Owed.antt`, proved: an outcome and the number that is owed tell one another. Assumes nothing.
+use Rattle.std.specs.Prelude.{Result, Ok, Err, Option, Some, None}
 use Prim.Native.Nat.{ℕ, ◌+◌}
 use mathlib.Core.Path.{◌≡◌, refl, ap}
 use mathlib.Core.List.{List}
 use mathlib.Core.Bool.{true, false, cond}
-use mathlib.Core.Option.{Option, none, some}
 use lib.Dec.{leb, ltb}
 use lib.ListN.{length}
 use borrow.Author.Tests.{le-ltb, lt-ltb, leb-true, leb-false}
@@ -11,8 +11,6 @@ use Rattle.text.proofs.Bools.{by_bool, clash}
 use Rattle.report.specs.Reader.{Reader, feed_text, close_text}
 use Rattle.lines.specs.declared.State.{State}
 use Rattle.lines.specs.declared.Fed.{Fed}
-use Rattle.lines.specs.declared.Filling.{Filling}
-use Rattle.lines.specs.declared.Filling.TheVariants.{Filled, Refused}
 use Rattle.lines.specs.declared.Unfed.{Unfed}
 use Rattle.lines.specs.declared.Unfed.TheVariants.{Closed, OverLimit, NoRoom}
 use Rattle.lines.specs.View.{view}
@@ -23,12 +21,12 @@ use Rattle.lines.proofs.Number.{value_of, numbers_apart}
 
 -- an outcome in n bytes of room beside the number that is owed then, where t is what there would be to print
 data Tells (t : List ℕ) (n : ℕ) : Outcome → Option ℕ → Type 0 where
-  refused : (why : Unfed) → Tells t n (refuses why) (some (unfed_number why))
-  short : leb (length t) n ≡ false → Tells t n (prints t) (some (unfed_number NoRoom))
-  done : leb (length t) n ≡ true → Tells t n (prints t) none
+  refused : (why : Unfed) → Tells t n (refuses why) (Some (unfed_number why))
+  short : leb (length t) n ≡ false → Tells t n (prints t) (Some (unfed_number NoRoom))
+  done : leb (length t) n ≡ true → Tells t n (prints t) None
 
 -- where no reason comes before it, the room decides
-in_room : (t : List ℕ) (n : ℕ) → Tells t n (prints t) (cond (ltb n (length t)) (some (unfed_number NoRoom)) none)
+in_room : (t : List ℕ) (n : ℕ) → Tells t n (prints t) (cond (ltb n (length t)) (Some (unfed_number NoRoom)) None)
 in_room t n =
     by_bool (leb (length t) n) (λ f. simp (le-ltb n (length t) (leb-true (length t) n f)) (done f))
     (λ f. simp (lt-ltb n (length t) (leb-false (length t) n f)) (short f))
@@ -46,9 +44,9 @@ unfolding close_outcome first_of against_closing
 close_tells r n = by_bool r.closed (λ c. simp c (refused Closed)) (λ c. simp c (in_room (close_text r) n))
 
 -- a refusal's number tells the refusal
-refused_as : (x : Filling) (why : Unfed) → number_in x ≡ some (unfed_number why) → x ≡ Refused why
-refused_as (Filled n) why e = clash (cc)
-refused_as (Refused other) why e = ap Refused (numbers_apart other why (ap value_of e))
+refused_as : (x : Result ℕ Unfed) (why : Unfed) → number_in x ≡ Some (unfed_number why) → x ≡ Err why
+refused_as (Ok n) why e = clash (cc)
+refused_as (Err other) why e = ap Err (numbers_apart other why (ap value_of e))
 
 module _ {t : List ℕ} {next : Reader} {kept : List ℕ} {state : State} {memory room : List ℕ} {r : Fed} {memory₁ room₁ : List ℕ} where
   to_owed : {o : Outcome} {k : Option ℕ} → Tells t (length room) o k → Does o next kept state memory room r memory₁ room₁

@@ -1,10 +1,8 @@
 -- What a call answers, and what it leaves.
-use Rattle.std.specs.Prelude.{ℕ, ◌+◌, ◌≡◌, List, ◌++◌, Bool, false, cond, leb, ltb, length, drop}
+use Rattle.std.specs.Prelude.{ℕ, ◌+◌, ◌≡◌, List, ◌++◌, Bool, false, cond, leb, ltb, length, drop, Result, Ok, Err}
 use Rattle.report.specs.Reader.{Reader, feed_text, fed, close_text, closed}
 use Rattle.lines.specs.declared.State.{State}
 use Rattle.lines.specs.declared.Fed.{Fed}
-use Rattle.lines.specs.declared.Filling.{Filling}
-use Rattle.lines.specs.declared.Filling.TheVariants.{Filled, Refused}
 use Rattle.lines.specs.declared.Unfed.{Unfed}
 use Rattle.lines.specs.declared.Unfed.TheVariants.{Closed, OverLimit, NoRoom}
 use Rattle.lines.specs.View.{view, state_of, memory_after}
@@ -30,9 +28,9 @@ accepts (prints t) n = leb (length t) n
 accepts (refuses why) n = false
 
 -- its answer: how many bytes it filled, or why it was refused
-unfoldable pub filling_of : Outcome → ℕ → Filling
-filling_of (prints t) n = cond (leb (length t) n) (Filled (length t)) (Refused NoRoom)
-filling_of (refuses why) n = Refused why
+unfoldable pub filling_of : Outcome → ℕ → Result ℕ Unfed
+filling_of (prints t) n = cond (leb (length t) n) (Ok (length t)) (Err NoRoom)
+filling_of (refuses why) n = Err why
 
 -- the room then: the text at its front and the bytes behind it as they were; where the call was refused every byte as it was
 unfoldable pub room_of : Outcome → List ℕ → List ℕ

@@ -1,10 +1,9 @@
 -- Calls one after another, from the first to the closing one. `proofs/Calls.antt` proves what they print.
-use Rattle.std.specs.Prelude.{ℕ, ◌≤◌, ◌≡◌, List, [], ◌∷◌, ◌++◌, length, take}
+use Rattle.std.specs.Prelude.{ℕ, ◌≤◌, ◌≡◌, List, [], ◌∷◌, ◌++◌, length, take, Ok}
 use Rattle.report.specs.Report.{report}
 use Rattle.report.specs.Reader.{reader_of, joined}
 use Rattle.lines.specs.declared.State.{State}
 use Rattle.lines.specs.declared.Fed.{Fed}
-use Rattle.lines.specs.declared.Filling.TheVariants.{Filled}
 use Rattle.lines.specs.View.{state_of}
 use Rattle.lines.specs.Call.{Feeds, Closes}
 
@@ -12,9 +11,9 @@ use Rattle.lines.specs.Call.{Feeds, Closes}
 -- is refused. The bytes that they filled, put one after another, are the last argument.
 pub data Calls : State → List ℕ → List (List ℕ) → List ℕ → Type 0 where
   last : (state : State) (memory room : List ℕ) (r : Fed) (after : List ℕ) (n : ℕ)
-      → Closes state memory room r after → r.filling ≡ Filled n → Calls state memory [] (take n after)
+      → Closes state memory room r after → r.filling ≡ Ok n → Calls state memory [] (take n after)
   more : (state : State) (memory s room : List ℕ) (r : Fed) (kept after : List ℕ) (n : ℕ) (fragments : List (List ℕ)) (printed : List ℕ)
-      → Feeds state memory s room r kept after → r.filling ≡ Filled n → Calls r.state kept fragments printed
+      → Feeds state memory s room r kept after → r.filling ≡ Ok n → Calls r.state kept fragments printed
       → Calls state memory (s ∷ fragments) (take n after ++ printed)
 
 -- however a text within the limit is cut, the calls print its report; the memory may hold anything at the start

@@ -1,12 +1,10 @@
 -- Calls one after another, from the first to the closing one, some of them refused. `proofs/CallsWithRefused.antt` proves the statements.
-use Rattle.std.specs.Prelude.{ℕ, ◌≤◌, ◌≡◌, List, [], ◌∷◌, ◌++◌, length, take}
-use Rattle.std.proofs.Math.Option.{some}
+use Rattle.std.specs.Prelude.{ℕ, ◌≤◌, ◌≡◌, List, [], ◌∷◌, ◌++◌, length, take, Ok, Err, Some}
 use Rattle.report.specs.Report.{report}
 use Rattle.report.specs.Reader.{reader_of, joined}
 use Rattle.lines.specs.declared.State.{State}
 use Rattle.lines.specs.declared.Fed.{Fed}
 use Rattle.lines.specs.declared.Unfed.{Unfed}
-use Rattle.lines.specs.declared.Filling.TheVariants.{Filled, Refused}
 use Rattle.lines.specs.View.{state_of}
 use Rattle.lines.specs.Number.{number_in}
 use Rattle.lines.specs.Call.{Feeds, Closes}
@@ -16,15 +14,15 @@ use Rattle.lines.specs.Call.{Feeds, Closes}
 -- last argument.
 pub data CallsWithRefused : State → List ℕ → List (List ℕ) → List ℕ → Type 0 where
   last : (state : State) (memory room : List ℕ) (r : Fed) (after : List ℕ) (n : ℕ)
-      → Closes state memory room r after → r.filling ≡ Filled n → CallsWithRefused state memory [] (take n after)
+      → Closes state memory room r after → r.filling ≡ Ok n → CallsWithRefused state memory [] (take n after)
   more : (state : State) (memory s room : List ℕ) (r : Fed) (kept after : List ℕ) (n : ℕ) (fragments : List (List ℕ)) (printed : List ℕ)
-      → Feeds state memory s room r kept after → r.filling ≡ Filled n → CallsWithRefused r.state kept fragments printed
+      → Feeds state memory s room r kept after → r.filling ≡ Ok n → CallsWithRefused r.state kept fragments printed
       → CallsWithRefused state memory (s ∷ fragments) (take n after ++ printed)
   unfed : (state : State) (memory s room : List ℕ) (r : Fed) (kept after : List ℕ) (why : Unfed) (fragments : List (List ℕ)) (printed : List ℕ)
-      → Feeds state memory s room r kept after → r.filling ≡ Refused why → CallsWithRefused r.state kept fragments printed
+      → Feeds state memory s room r kept after → r.filling ≡ Err why → CallsWithRefused r.state kept fragments printed
       → CallsWithRefused state memory fragments printed
   unclosed : (state : State) (memory room : List ℕ) (r : Fed) (after : List ℕ) (why : Unfed) (fragments : List (List ℕ)) (printed : List ℕ)
-      → Closes state memory room r after → r.filling ≡ Refused why → CallsWithRefused r.state memory fragments printed
+      → Closes state memory room r after → r.filling ≡ Err why → CallsWithRefused r.state memory fragments printed
       → CallsWithRefused state memory fragments printed
 
 -- however a text within the limit is cut, and whichever calls are refused on the way, the calls print its report; the memory may hold anything at the start
@@ -42,17 +40,17 @@ pub record Unchanged (state₀ : State) (memory₀ room₀ : List ℕ) (r : Fed)
 abbrev pub RefusedFeedingKeeps : Type 0
 RefusedFeedingKeeps =
     (state : State) (memory s room : List ℕ) (r : Fed) (memory₁ room₁ : List ℕ) (why : Unfed)
-    → Feeds state memory s room r memory₁ room₁ → r.filling ≡ Refused why → Unchanged state memory room r memory₁ room₁
+    → Feeds state memory s room r memory₁ room₁ → r.filling ≡ Err why → Unchanged state memory room r memory₁ room₁
 
 abbrev pub RefusedClosingKeeps : Type 0
 RefusedClosingKeeps =
     (state : State) (memory room : List ℕ) (r : Fed) (room₁ : List ℕ) (why : Unfed)
-    → Closes state memory room r room₁ → r.filling ≡ Refused why → Unchanged state memory room r memory room₁
+    → Closes state memory room r room₁ → r.filling ≡ Err why → Unchanged state memory room r memory room₁
 
 -- after a closing call that was done any call, beside any memory, is refused with 28
 abbrev pub ClosedForGood : Type 0
 ClosedForGood =
-    (state : State) (memory room : List ℕ) (r : Fed) (room₁ : List ℕ) (n : ℕ) → Closes state memory room r room₁ → r.filling ≡ Filled n
+    (state : State) (memory room : List ℕ) (r : Fed) (room₁ : List ℕ) (n : ℕ) → Closes state memory room r room₁ → r.filling ≡ Ok n
     → (memory' s room' : List ℕ) (next : Fed) (memory₂ room₂ : List ℕ)
-    → (Feeds r.state memory' s room' next memory₂ room₂ → number_in next.filling ≡ some 28)
-    × (Closes r.state memory' room' next room₂ → number_in next.filling ≡ some 28)
+    → (Feeds r.state memory' s room' next memory₂ room₂ → number_in next.filling ≡ Some 28)
+    × (Closes r.state memory' room' next room₂ → number_in next.filling ≡ Some 28)

@@ -1,6 +1,5 @@
 -- Which number calls owe, at the limits.
-use Rattle.std.specs.Prelude.{ℕ, refl, List, [], ◌∷◌, false}
-use Rattle.std.proofs.Math.Option.{Option, none, some}
+use Rattle.std.specs.Prelude.{ℕ, refl, List, [], ◌∷◌, false, Option, Some, None}
 use Rattle.text.specs.Word.{word, ends_in, same}
 use Rattle.text.specs.Example.{◌gives◌, Each}
 use Rattle.number.specs.Decimal.{decimal, digits_in}
@@ -28,21 +27,21 @@ at_limit = behind 4294967295
 
 -- 28 before 37 before 24; at the limit a fragment of no bytes is taken. `\n` prints three bytes, and the totals have 33
 numbers : Each number (
-    feed (closed at_limit) (word "\n") 0 gives some 28
-    ∷ feed (closed at_limit) [] 100 gives some 28
-    ∷ close (closed at_limit) 100 gives some 28
-    ∷ close (closed at_limit) 0 gives some 28
-    ∷ feed at_limit (word "\n") 0 gives some 37
-    ∷ feed at_limit (word "\n") 3 gives some 37
-    ∷ feed (behind 4294967294) (word "\n\n") 100 gives some 37
-    ∷ feed at_limit [] 0 gives none
-    ∷ feed (behind 4294967294) (word "\n") 3 gives none
-    ∷ feed (behind 4294967294) (word "\n") 2 gives some 24
-    ∷ feed (behind 0) (word "a\r") 0 gives none
-    ∷ feed (fed (behind 0) (word "a\r")) (word "\n") 2 gives some 24
-    ∷ feed (fed (behind 0) (word "a\r")) (word "\n") 3 gives none
-    ∷ close at_limit 32 gives some 24
-    ∷ close at_limit 33 gives none
+    feed (closed at_limit) (word "\n") 0 gives Some 28
+    ∷ feed (closed at_limit) [] 100 gives Some 28
+    ∷ close (closed at_limit) 100 gives Some 28
+    ∷ close (closed at_limit) 0 gives Some 28
+    ∷ feed at_limit (word "\n") 0 gives Some 37
+    ∷ feed at_limit (word "\n") 3 gives Some 37
+    ∷ feed (behind 4294967294) (word "\n\n") 100 gives Some 37
+    ∷ feed at_limit [] 0 gives None
+    ∷ feed (behind 4294967294) (word "\n") 3 gives None
+    ∷ feed (behind 4294967294) (word "\n") 2 gives Some 24
+    ∷ feed (behind 0) (word "a\r") 0 gives None
+    ∷ feed (fed (behind 0) (word "a\r")) (word "\n") 2 gives Some 24
+    ∷ feed (fed (behind 0) (word "a\r")) (word "\n") 3 gives None
+    ∷ close at_limit 32 gives Some 24
+    ∷ close at_limit 33 gives None
     ∷ [])
 unfolding number first_of unfed_number against_feeding against_closing closed fed close_text ended_from open_from last_line without_cr ends_in printed reply_to same
     counted counted_all totals_text decimal digits_in

@@ -1,10 +1,7 @@
 -- The number that a refused call carries, and the one that it owes. `proofs/Number.antt` proves the statements.
-use Rattle.std.specs.Prelude.{ℕ, ◌<◌, ◌≡◌, ◌↔◌, List, [], ◌∷◌, Bool, true, false, cond}
-use Rattle.std.proofs.Math.Option.{Option, none, some}
+use Rattle.std.specs.Prelude.{ℕ, ◌<◌, ◌≡◌, ◌↔◌, List, [], ◌∷◌, Bool, true, false, cond, Result, Ok, Err, Option, Some, None}
 use Rattle.lines.specs.declared.Unfed.{Unfed}
 use Rattle.lines.specs.declared.Unfed.TheVariants.{Closed, OverLimit, NoRoom}
-use Rattle.lines.specs.declared.Filling.{Filling}
-use Rattle.lines.specs.declared.Filling.TheVariants.{Filled, Refused}
 
 -- the number of each reason in the rules
 unfoldable pub unfed_number : Unfed → ℕ
@@ -13,9 +10,9 @@ unfed_number OverLimit = 37
 unfed_number NoRoom = 24
 
 -- the number that an answer carries: none where bytes were filled
-abbrev pub number_in : Filling → Option ℕ
-number_in (Filled n) = none
-number_in (Refused why) = some (unfed_number why)
+abbrev pub number_in : Result ℕ Unfed → Option ℕ
+number_in (Ok n) = None
+number_in (Err why) = Some (unfed_number why)
 
 -- What there is against a call: of each reason by itself whether it holds, whatever the others do.
 abbrev pub Against : Type 0
@@ -23,8 +20,8 @@ Against = Unfed → Bool
 
 -- of reasons, one behind another, the number of the first that holds
 unfoldable pub first_of : Against → List Unfed → Option ℕ
-first_of against [] = none
-first_of against (why ∷ others) = cond (against why) (some (unfed_number why)) (first_of against others)
+first_of against [] = None
+first_of against (why ∷ others) = cond (against why) (Some (unfed_number why)) (first_of against others)
 
 -- the number that is owed: the rules name 28 first, then 37, then 24; where no reason holds none is owed
 abbrev pub owed_number : Against → Option ℕ
@@ -43,10 +40,10 @@ pub record Owed (against : Against) (why : Unfed) : Type 0 where
 
 -- a number is owed exactly where its reason is, and none exactly where no reason holds
 abbrev pub OwedIsFirst : Type 0
-OwedIsFirst = (against : Against) (why : Unfed) → owed_number against ≡ some (unfed_number why) ↔ Owed against why
+OwedIsFirst = (against : Against) (why : Unfed) → owed_number against ≡ Some (unfed_number why) ↔ Owed against why
 
 abbrev pub NoneIsOwed : Type 0
-NoneIsOwed = (against : Against) → owed_number against ≡ none ↔ ((why : Unfed) → against why ≡ false)
+NoneIsOwed = (against : Against) → owed_number against ≡ None ↔ ((why : Unfed) → against why ≡ false)
 
 -- no two reasons share a number, so that the number tells the reason
 abbrev pub NumbersApart : Type 0

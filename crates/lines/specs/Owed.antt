@@ -1,10 +1,8 @@
 -- The number that each call owes, and that the calls answer with it: `Feeds` and `Closes` told by that number. `proofs/Owed.antt` proves both statements.
-use Rattle.std.specs.Prelude.{ℕ, ◌+◌, ◌≡◌, ◌↔◌, List, ◌++◌, false, ltb, length, drop}
-use Rattle.std.proofs.Math.Option.{Option, none, some}
+use Rattle.std.specs.Prelude.{ℕ, ◌+◌, ◌≡◌, ◌↔◌, List, ◌++◌, false, ltb, length, drop, Ok, Option, Some, None}
 use Rattle.report.specs.Reader.{Reader, feed_text, fed, close_text, closed}
 use Rattle.lines.specs.declared.State.{State}
 use Rattle.lines.specs.declared.Fed.{Fed}
-use Rattle.lines.specs.declared.Filling.TheVariants.{Filled}
 use Rattle.lines.specs.declared.Unfed.TheVariants.{Closed, OverLimit, NoRoom}
 use Rattle.lines.specs.View.{view, state_of, memory_after}
 use Rattle.lines.specs.Number.{number_in, Against, owed_number}
@@ -24,15 +22,15 @@ against_closing r n NoRoom = ltb n (length (close_text r))
 
 -- what is left where no number is owed, and where one is
 abbrev pub if_none : {A : Type 0} → Option ℕ → A → A → A
-if_none none a b = a
-if_none (some k) a b = b
+if_none None a b = a
+if_none (Some k) a b = b
 
 -- A call on a state beside its memory, which prints t and owes a number or none. Where none is owed it is done: the answer is how many bytes t has, t
 -- stands at the room's front and the bytes behind it are as they were, the memory is `kept`, and the reader that state and memory stand for is `next`.
 -- Where a number is owed the answer carries it, and state, memory and room are as they were.
 pub record DoesAsOwed (t : List ℕ) (owed : Option ℕ) (next : Reader) (kept : List ℕ) (state₀ : State) (memory₀ room₀ : List ℕ) (r : Fed) (memory₁ room₁ : List ℕ) : Type 0 where
   pub number : number_in r.filling ≡ owed
-  pub filled : owed ≡ none → r.filling ≡ Filled (length t)
+  pub filled : owed ≡ None → r.filling ≡ Ok (length t)
   pub room : room₁ ≡ if_none owed (t ++ drop (length t) room₀) room₀
   pub memory : memory₁ ≡ if_none owed kept memory₀
   pub state : r.state ≡ if_none owed (state_of next) state₀

@@ -38,16 +38,9 @@ pub enum Unfed {
     NoRoom,
 }
 
-// How many bytes of the room were filled, or why nothing was done.
-#[derive(Clone, Copy)]
-pub enum Filling {
-    Filled(usize),
-    Refused(Unfed),
-}
-
 #[derive(Clone, Copy)]
 pub struct Fed {
-    pub filling: Filling,
+    pub filling: Result<usize, Unfed>,
     pub state: State,
 }
 
@@ -241,12 +234,12 @@ pub fn feed(state: State, memory: &mut [u8; 4098], text: &[u8], room: &mut [u8])
 {
     let closed = state.closed;
     if closed {
-        let filling = Filling::Refused(Unfed::Closed);
+        let filling = Err(Unfed::Closed);
         return Fed { filling, state };
     }
     let all = state.read as usize + text.len();
     if MOST_READ < all {
-        let filling = Filling::Refused(Unfed::OverLimit);
+        let filling = Err(Unfed::OverLimit);
         return Fed { filling, state };
     }
     let read = all as u32;
@@ -258,7 +251,7 @@ pub fn feed(state: State, memory: &mut [u8; 4098], text: &[u8], room: &mut [u8])
         let past = ran.past;
         let after = past.totals;
         return Fed {
-            filling: Filling::Filled(past.at),
+            filling: Ok(past.at),
             state: State {
                 len: ran.len,
                 totals: after,
@@ -267,7 +260,7 @@ pub fn feed(state: State, memory: &mut [u8; 4098], text: &[u8], room: &mut [u8])
             },
         };
     }
-    let filling = Filling::Refused(Unfed::NoRoom);
+    let filling = Err(Unfed::NoRoom);
     Fed { filling, state }
 }
 
@@ -277,20 +270,20 @@ pub fn close(state: State, memory: &[u8; 4098], room: &mut [u8]) -> Fed
 {
     let closed = state.closed;
     if closed {
-        let filling = Filling::Refused(Unfed::Closed);
+        let filling = Err(Unfed::Closed);
         return Fed { filling, state };
     }
     let line: &[u8] = memory;
     let len = text::least(state.len, MOST_KEPT);
     let totals = state.totals;
     if room.len() < finish_length(&line[..len], totals) {
-        let filling = Filling::Refused(Unfed::NoRoom);
+        let filling = Err(Unfed::NoRoom);
         return Fed { filling, state };
     }
     let done = finish(&line[..len], room, totals);
     let after = done.totals;
     Fed {
-        filling: Filling::Filled(done.at),
+        filling: Ok(done.at),
         state: State {
             len: 0,
             totals: after,

@@ -28,21 +28,17 @@ pub(crate) struct Arguments {
     pub(crate) case: u8,
 }
 
-fn joined(high: u8, low: u8) -> u16 {
-    (high as u16) << 8 | low as u16
-}
-
 // The bytes from a place on as a number, the first byte highest.
 pub(crate) fn two(h: &[u8; 39], at: usize) -> u16
     requires { at ≤ 37 }
 {
-    joined(h[at], h[at + 1])
+    u16::from_be_bytes([h[at], h[at + 1]])
 }
 
 fn four(h: &[u8; 39], at: usize) -> u32
     requires { at ≤ 35 }
 {
-    (two(h, at) as u32) << 16 | two(h, at + 2) as u32
+    u32::from_be_bytes([h[at], h[at + 1], h[at + 2], h[at + 3]])
 }
 
 fn place(h: &[u8; 39], at: usize) -> Place
@@ -75,7 +71,7 @@ impl Arguments {
     }
 
     pub(crate) fn id(self) -> u64 {
-        (self.high as u64) << 32 | self.low as u64
+        u64::from(self.high) << 32 | u64::from(self.low)
     }
 
     pub(crate) fn eui(self) -> Eui64 {
@@ -83,37 +79,30 @@ impl Arguments {
     }
 
     pub(crate) fn rate(self) -> Rate {
-        Rate {
-            numerator: self.numerator,
-            denominator: self.denominator,
-        }
+        Rate::new(self.numerator, self.denominator)
     }
 
     // 0 to 2 are the versions of IEEE, in the order of the module, else the version is the text at `r`.
     pub(crate) fn ptp_version(self) -> PtpVersion {
-        let version = self.version;
-        let r = self.r;
-        match version {
+        match self.version {
             0 => PtpVersion::Ieee1588_2002,
             1 => PtpVersion::Ieee1588_2008,
             2 => PtpVersion::Ieee8021As_2011,
-            _ => PtpVersion::Ext(r),
+            _ => PtpVersion::Ext(self.r),
         }
     }
 
     // Case 0 a name, else a number, of which nothing is asked.
     pub(crate) fn ptp_domain(self) -> PtpDomain {
-        let name = self.p;
-        if self.case == 0 {
-            return PtpDomain::DomainName { name };
+        match self.case {
+            0 => PtpDomain::DomainName { name: self.p },
+            _ => PtpDomain::DomainNumber(self.domain),
         }
-        PtpDomain::DomainNumber(self.domain)
     }
 
     // Case 0 traceable, 1 a GMID alone, else a GMID with the domain number x.
     pub(crate) fn ptp_server(self) -> PtpServer {
-        let case = self.case;
-        match case {
+        match self.case {
             0 => PtpServer::Traceable,
             1 => PtpServer::from_gmid(self.eui()),
             _ => PtpServer::from_gmid_with_domain(self.eui(), PtpDomain::DomainNumber(self.domain)),
@@ -129,12 +118,10 @@ impl Arguments {
 
     // Case 0 traceable, 1 a host, else a host and a port.
     pub(crate) fn ntp_server(self) -> NtpServerAddr {
-        let case = self.case;
-        let host = self.p;
-        match case {
+        match self.case {
             0 => NtpServerAddr::Traceable,
-            1 => NtpServerAddr::from_hostname(host),
-            _ => NtpServerAddr::from_hostname_with_port(host, self.port),
+            1 => NtpServerAddr::from_hostname(self.p),
+            _ => NtpServerAddr::from_hostname_with_port(self.p, self.port),
         }
     }
 
@@ -146,75 +133,64 @@ impl Arguments {
 
     // Case 0 standard, else traceable.
     pub(crate) fn private_source(self) -> PrivateSource {
-        if self.case == 0 {
-            return PrivateSource::Standard;
+        match self.case {
+            0 => PrivateSource::Standard,
+            _ => PrivateSource::Traceable,
         }
-        PrivateSource::Traceable
     }
 
     // Case 0 the name alone, else with the text at `r` as its value.
     pub(crate) fn source_ext(self) -> ClockSourceExt {
-        let name = self.p;
-        let value = self.r;
-        if self.case == 0 {
-            return ClockSourceExt::new(name);
+        match self.case {
+            0 => ClockSourceExt::new(self.p),
+            _ => ClockSourceExt::with_value(self.p, self.r),
         }
-        ClockSourceExt::with_value(name, value)
     }
 
     pub(crate) fn media_ext(self) -> MediaClockExt {
-        let name = self.p;
-        let value = self.r;
-        if self.case == 0 {
-            return MediaClockExt::new(name);
+        match self.case {
+            0 => MediaClockExt::new(self.p),
+            _ => MediaClockExt::with_value(self.p, self.r),
         }
-        MediaClockExt::with_value(name, value)
     }
 
     // Case 0 the sender, 1 direct with offset and rate, 2 a stream, else an extension with a value.
     pub(crate) fn media_clock(self) -> MediaClock {
-        let case = self.case;
-        let name = self.p;
-        let value = self.q;
-        match case {
+        match self.case {
             0 => MediaClock::Sender,
             1 => MediaClock::from_direct_offset_and_rate(self.x, self.rate()),
             2 => MediaClock::Ieee1722StreamId(self.eui()),
-            _ => MediaClock::from_extended_name_with_value(name, value),
+            _ => MediaClock::from_extended_name_with_value(self.p, self.q),
         }
     }
 
     pub(crate) fn media_clock_id(self) -> MediaClockId {
-        let tag = self.r;
-        MediaClockId { src: self.src, tag }
+        MediaClockId {
+            src: self.src,
+            tag: self.r,
+        }
     }
 
     // Of case 0 without the flag, else with it.
     pub(crate) fn flagged_id(self) -> MediaClockId {
-        let tag = self.r;
         MediaClockId {
             src: self.case != 0,
-            tag,
+            tag: self.r,
         }
     }
 
     // Of version 0 there is no id, else one without the flag and with the text at `q`.
     pub(crate) fn media_clock_source(self) -> MediaClockSource {
-        let tag = self.q;
-        if self.version == 0 {
-            return MediaClockSource::new(self.media_clock());
+        match self.version {
+            0 => MediaClockSource::new(self.media_clock()),
+            _ => MediaClockSource::with_clock_id(self.media_clock(), MediaClockId::new(self.q)),
         }
-        MediaClockSource::with_clock_id(self.media_clock(), MediaClockId { src: false, tag })
     }
 
     // Case 0 neither, 1 an offset, 2 a rate, else both; each made of the two halves of the id.
     pub(crate) fn direct(self) -> Direct {
-        let case = self.case;
-        let rate = Rate {
-            numerator: self.high,
-            denominator: self.low,
-        };
-        match case {
+        let rate = Rate::new(self.high, self.low);
+        match self.case {
             0 => Direct::new(),
             1 => Direct::with_offset(self.low),
             2 => Direct::with_rate(rate),

@@ -1,4 +1,5 @@
 -- Demand 1 holds: of every value the guard answers first, and of every writing the number and the room are as owed. Assumes nothing.
+use Rattle.std.specs.Prelude.{Result, Ok, Err}
 use Prim.Native.Nat.{ℕ, ◌≤◌}
 use mathlib.Core.Path.{◌≡◌, refl, ap}
 use mathlib.Core.List.{List}
@@ -13,41 +14,36 @@ use Rattle.abnf.specs.Rule.{longest}
 use Rattle.utf8.specs.Utf8.{utf8_octets, utf8_of}
 use Rattle.utf8.proofs.Text.{octets_well}
 use Rattle.clock.specs.declared.Refusal.{Refusal}
-use Rattle.clock.specs.declared.Wrote.{Wrote}
-use Rattle.clock.specs.declared.Wrote.TheVariants as wrote
 use Rattle.clock.specs.declared.WriteRefusal.{WriteRefusal}
-use Rattle.meaning.specs.Answer.{Answer, refused, refuse, most_bytes, guarded}
+use Rattle.meaning.specs.Answer.{Answer, refuse, most_bytes, guarded}
 use Rattle.meaning.specs.Domain.{bare}
-use Rattle.meaning.specs.ReferenceClock.{clock_of, reference_clock_of, as_reference_clock_read, read_reference_clock}
-use Rattle.meaning.specs.MediaClock.{source_of, media_clock_source_of, as_media_clock_source_read, read_media_clock_source}
+use Rattle.meaning.specs.ReferenceClock.{clock_of, reference_clock_of, read_reference_clock}
+use Rattle.meaning.specs.MediaClock.{source_of, media_clock_source_of, read_media_clock_source}
 use Rattle.meaning.specs.Written.{wrote_of, room_after}
 use Rattle.meaning.specs.Demand1.{Answered, RefAnswered, MediaAnswered, RoomLeft, WritingNumbered, WritingLeaves}
 use Rattle.meaning.proofs.Told.{guarded_well, guarded_long}
 
--- reading: the guard, and a reader's answer for each answer of the rules
-module _ {A R : Type 0} (as_read : Answer A → R) (v : List ℕ) (x : Answer A) where
-  abbrev refuses : Refusal → R
-  refuses r = as_read (refused r)
-
+-- reading: the guard
+module _ {A : Type 0} (v : List ℕ) (x : Answer A) where
   guard_ill : length v ≤ 1024 → utf8_octets v ≡ false → guarded v x ≡ refuse 2 (longest utf8_octets v) 1
   unfolding guarded utf8_of
   guard_ill h e = simp (le-ltb most_bytes (length v) h, e)
 
-  guard_answered : Answered refuses v (as_read x) (as_read (guarded v x))
+  guard_answered : Answered v x (guarded v x)
   guard_answered =
       record {
-        long = λ h. record { refusal = _; is = ap as_read (guarded_long v x h); number = refl; from = refl; to = omega arith };
-        ill = λ h e. record { refusal = _; is = ap as_read (guard_ill h e); number = refl; from = refl; to = refl };
-        well = λ h e. ap as_read (guarded_well v x h (octets_well v e));
+        long = λ h. record { refusal = _; is = guarded_long v x h; number = refl; from = refl; to = omega arith };
+        ill = λ h e. record { refusal = _; is = guard_ill h e; number = refl; from = refl; to = refl };
+        well = λ h e. guarded_well v x h (octets_well v e);
       }
 
 pub ref_answered : RefAnswered
 unfolding read_reference_clock reference_clock_of
-ref_answered v = guard_answered as_reference_clock_read v (clock_of bare v)
+ref_answered v = guard_answered v (clock_of bare v)
 
 pub media_answered : MediaAnswered
 unfolding read_media_clock_source media_clock_source_of
-media_answered v = guard_answered as_media_clock_source_read v (source_of v)
+media_answered v = guard_answered v (source_of v)
 
 -- writing
 pub writing_numbered : WritingNumbered
@@ -61,9 +57,9 @@ writing_numbered v inside t n =
     }
 
 -- an answer is a refusal, or the length of a text that fits
-data WroteIs (t : List ℕ) (n : ℕ) : Wrote → Type 0 where
-  not_written : (r : WriteRefusal) → WroteIs t n (wrote.Refused r)
-  fits : length t ≤ n → WroteIs t n (wrote.Length (length t))
+data WroteIs (t : List ℕ) (n : ℕ) : Result ℕ WriteRefusal → Type 0 where
+  not_written : (r : WriteRefusal) → WroteIs t n (Err r)
+  fits : length t ≤ n → WroteIs t n (Ok (length t))
 
 wrote_is : (v : List ℕ) (inside : Bool) (t : List ℕ) (n : ℕ) → WroteIs t n (wrote_of v inside t n)
 unfolding wrote_of
@@ -72,7 +68,7 @@ wrote_is v inside t n =
     (λ e. by_bool (not inside) (λ f. simp (e, f) (not_written _))
     (λ f. by_bool (ltb n (length t)) (λ g. simp (e, f, g) (not_written _)) (λ g. simp (e, f, g) (fits (ltb-false n (length t) g)))))
 
-room_left : (t room : List ℕ) (a : Wrote) → WroteIs t (length room) a → RoomLeft t room a (room_after a t room)
+room_left : (t room : List ℕ) (a : Result ℕ WriteRefusal) → WroteIs t (length room) a → RoomLeft t room a (room_after a t room)
 unfolding room_after
 room_left t room a (not_written r) =
     record { kept = λ k e. refl; said = λ e. clash (cc); text = λ e. clash (cc); behind = λ e. clash (cc); size = refl }

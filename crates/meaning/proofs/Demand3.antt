@@ -1,4 +1,5 @@
 -- Demand 3 holds: what was written is the text of the meaning, which reads back. Assumes nothing.
+use Rattle.std.specs.Prelude.{Ok, Err}
 use Prim.Native.Nat.{ℕ, ◌≤◌}
 use mathlib.Core.Path.{◌≡◌, sym, ap, ◌∙◌}
 use mathlib.Core.List.{List}
@@ -7,13 +8,11 @@ use lib.ListN.{length}
 use Rattle.text.proofs.Bools.{clash}
 use Rattle.clock.specs.declared.Refusal.{Refusal}
 use Rattle.clock.specs.declared.ReferenceClock.{ReferenceClock}
-use Rattle.clock.specs.declared.ReferenceClockRead.TheVariants as ref
 use Rattle.mediarecord.specs.declared.MediaClockSource.{MediaClockSource}
-use Rattle.mediarecord.specs.declared.MediaClockSourceRead.TheVariants as media
-use Rattle.meaning.specs.Answer.{Answer, accepted, refused, ◌>>=◌}
+use Rattle.meaning.specs.Answer.{Answer, ◌>>=◌}
 use Rattle.meaning.specs.Domain.{bare}
-use Rattle.meaning.specs.ReferenceClock.{reference_clock_of, as_reference_clock_read, read_reference_clock}
-use Rattle.meaning.specs.MediaClock.{source_of, media_clock_source_of, as_media_clock_source_read, read_media_clock_source}
+use Rattle.meaning.specs.ReferenceClock.{reference_clock_of, read_reference_clock}
+use Rattle.meaning.specs.MediaClock.{source_of, media_clock_source_of, read_media_clock_source}
 use Rattle.meaning.specs.Meaning.{ref_meaning, media_meaning}
 use Rattle.meaning.specs.Text.{ref_meaning_text, reference_clock_text, media_clock_source_text}
 use Rattle.meaning.specs.Inside.{reference_clock_inside, media_clock_source_inside}
@@ -27,21 +26,21 @@ use Rattle.meaning.proofs.Media.{media_inside_lem, media_short, media_back_lem, 
 use Rattle.meaning.proofs.Room.{wrote_length, wrote_text}
 
 -- ts-refclk
-pub ref_answer : (v : List ℕ) (c : ReferenceClock) → read_reference_clock v ≡ ref.Accepted c → reference_clock_of bare v ≡ accepted c
+pub ref_answer : (v : List ℕ) (c : ReferenceClock) → read_reference_clock v ≡ Ok c → reference_clock_of bare v ≡ Ok c
 unfolding read_reference_clock
 ref_answer v c h = go (reference_clock_of bare v) h
   where
-    go : (x : Answer ReferenceClock) → as_reference_clock_read x ≡ ref.Accepted c → x ≡ accepted c
-    go (accepted d) h = cc
-    go (refused r) h = clash (cc)
+    go : (x : Answer ReferenceClock) → x ≡ Ok c → x ≡ Ok c
+    go (Ok d) h = cc
+    go (Err r) h = clash (cc)
 
 -- an answer by what it means
-ref_refused : {A B : Type 0} (x : Answer A) (f : A → B) (r : Refusal) → (x >>= λ a. accepted (f a)) ≡ refused r → x ≡ refused r
-ref_refused (accepted a) f r h = clash (cc)
-ref_refused (refused s) f r h = cc
+ref_refused : {A B : Type 0} (x : Answer A) (f : A → B) (r : Refusal) → (x >>= λ a. Ok (f a)) ≡ Err r → x ≡ Err r
+ref_refused (Ok a) f r h = clash (cc)
+ref_refused (Err s) f r h = cc
 
 module _ (v : List ℕ) (c : ReferenceClock) (room : List ℕ) (g : RefGiven v c room) where
-  ref_is_read : reference_clock_of bare v ≡ accepted c
+  ref_is_read : reference_clock_of bare v ≡ Ok c
   ref_is_read = ref_answer v c g.was_read
 
   ref_room : length (reference_clock_text v c) ≤ length room
@@ -74,8 +73,8 @@ module _ (v : List ℕ) (c : ReferenceClock) (room : List ℕ) (g : RefGiven v c
       record {
         same = λ o.
             let r = was_made (reference_clock_of bare t) (ref_meaning t) (ref_meaning v c) (rw o at b) in
-            rw ref_text (r.value, (ap as_reference_clock_read r.is, sym r.made));
-        class = λ o. rw ref_text (ap as_reference_clock_read (ref_refused (reference_clock_of bare t) (ref_meaning t) _ (rw o at b)));
+            rw ref_text (r.value, (r.is, sym r.made));
+        class = λ o. rw ref_text (ref_refused (reference_clock_of bare t) (ref_meaning t) _ (rw o at b));
       }
 
 pub ref_read_back : RefReadsBack
@@ -91,16 +90,16 @@ ref_demand v w c d room other g k = (
 )
 
 -- mediaclk
-media_answer : (v : List ℕ) (m : MediaClockSource) → read_media_clock_source v ≡ media.Accepted m → media_clock_source_of v ≡ accepted m
+media_answer : (v : List ℕ) (m : MediaClockSource) → read_media_clock_source v ≡ Ok m → media_clock_source_of v ≡ Ok m
 unfolding read_media_clock_source
 media_answer v m h = go (media_clock_source_of v) h
   where
-    go : (x : Answer MediaClockSource) → as_media_clock_source_read x ≡ media.Accepted m → x ≡ accepted m
-    go (accepted n) h = cc
-    go (refused r) h = clash (cc)
+    go : (x : Answer MediaClockSource) → x ≡ Ok m → x ≡ Ok m
+    go (Ok n) h = cc
+    go (Err r) h = clash (cc)
 
 module _ (v : List ℕ) (m : MediaClockSource) (room : List ℕ) (g : MediaGiven v m room) where
-  media_is : media_clock_source_of v ≡ accepted m
+  media_is : media_clock_source_of v ≡ Ok m
   media_is = media_answer v m g.was_read
 
   media_fits : length v ≤ 1024
@@ -130,7 +129,7 @@ module _ (v : List ℕ) (m : MediaClockSource) (room : List ℕ) (g : MediaGiven
   media_again =
       let t = media_clock_source_text v m in
       let r = was_made (media_clock_source_of t) (media_meaning t) (media_meaning v m) (media_back_lem v m media_is) in
-      record { same = rw media_text_lem (r.value, (ap as_media_clock_source_read r.is, sym r.made)) }
+      record { same = rw media_text_lem (r.value, (r.is, sym r.made)) }
 
 pub media_read_back : MediaReadsBack
 media_read_back = media_again

@@ -14,3 +14,4 @@ pub mod Demand1
 pub mod Demand3
 pub mod Rows
 pub mod Refusals
+pub mod Settled

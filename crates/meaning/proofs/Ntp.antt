@@ -1,9 +1,9 @@
 -- An NTP source: one walk of the reader tells the way in which its text was accepted, and each theorem goes by these ways. Assumes nothing.
+use Rattle.std.specs.Prelude.{Option, Some, None, Ok}
 use Prim.Native.Nat.{ℕ, suc, ◌+◌, ◌-◌, ◌≤◌, ◌<◌}
 use mathlib.Core.Path.{◌≡◌, refl, sym, ap, ◌∙◌}
 use mathlib.Core.List.{List, [], ◌∷◌, ◌++◌, append-nil}
 use mathlib.Core.Bool.{true, false, cond, not}
-use mathlib.Core.Option.{none, some}
 use native.Mathlib.Omega.{arith}
 use lib.Dec.{eqb, ltb}
 use lib.ListN.{length, take, drop, length-append, length-take}
@@ -15,21 +15,17 @@ use Rattle.text.specs.Place.{place}
 use Rattle.text.proofs.Bools.{by_bool, clash, and_left}
 use Rattle.text.proofs.Cuts.{same_eq, last_le, cut_last, cut_pair, cut_end}
 use Rattle.number.specs.Decimal.{number_of, decimal}
-use Rattle.number.specs.declared.Number.TheVariants.{Value}
 use Rattle.number.proofs.Laws.{number_le}
 use Rattle.number.proofs.Written.{number_short, decimal_length}
 use Rattle.utf8.specs.Utf8.{utf8_of}
-use Rattle.utf8.specs.declared.Utf8.TheVariants.{Well}
 use Rattle.utf8.proofs.Text.{utf8_cut}
 use Rattle.ipaddr.specs.Address.{ip_address}
 use Rattle.ipaddr.proofs.Fits.{address_short}
 use Rattle.clock.specs.Refusal.{refusal}
 use Rattle.clock.specs.declared.Refusal.{Refusal}
-use Rattle.clock.specs.declared.OptPort.{OptPort}
-use Rattle.clock.specs.declared.OptPort.TheVariants.{NoPort, SomePort}
 use Rattle.clock.specs.declared.NtpServerAddr.{NtpServerAddr}
 use Rattle.clock.specs.declared.NtpServerAddr.TheVariants.{HostPort, Traceable}
-use Rattle.meaning.specs.Answer.{accepted, refuse, ◌>>=◌, empty, or_refuse}
+use Rattle.meaning.specs.Answer.{refuse, ◌>>=◌, empty, or_refuse}
 use Rattle.meaning.specs.Domain.{Spelling, bare}
 use Rattle.meaning.specs.ReferenceClock.{port_of, address_of, bracket_of, host_of, ntp_of}
 use Rattle.meaning.specs.Meaning.{RefMeaning, ntp_traceable, ntp_host, ntp_means}
@@ -41,36 +37,36 @@ use Rattle.meaning.proofs.NtpHost.{Host, first_byte, address_host, address_alone
 -- The ways: a text that was accepted, as which record, and what that means.
 pub data NtpIs : List ℕ → NtpServerAddr → RefMeaning → Type 0 where
   traceable : NtpIs (word "/traceable/") Traceable ntp_traceable
-  host : (h : List ℕ) → ntp_of 4 h ≡ accepted (HostPort (place 4 (length h)) NoPort)
-      → NtpIs h (HostPort (place 4 (length h)) NoPort) (ntp_host h none)
-  bracketed : (h : List ℕ) → ip_address h ≡ true → NtpIs (91 ∷ (h ++ 93 ∷ [])) (HostPort (place 5 (length h)) NoPort) (ntp_host h none)
-  host_port : (h p : List ℕ) (n : ℕ) → Host h → Value n ≡ number_of 65535 p
-      → NtpIs (h ++ 58 ∷ p) (HostPort (place 4 (length h)) (SomePort n)) (ntp_host h (some n))
-  bracketed_port : (h p : List ℕ) (n : ℕ) → ip_address h ≡ true → Value n ≡ number_of 65535 p
-      → NtpIs (91 ∷ (h ++ 93 ∷ 58 ∷ p)) (HostPort (place 5 (length h)) (SomePort n)) (ntp_host h (some n))
+  host : (h : List ℕ) → ntp_of 4 h ≡ Ok (HostPort (place 4 (length h)) None)
+      → NtpIs h (HostPort (place 4 (length h)) None) (ntp_host h None)
+  bracketed : (h : List ℕ) → ip_address h ≡ true → NtpIs (91 ∷ (h ++ 93 ∷ [])) (HostPort (place 5 (length h)) None) (ntp_host h None)
+  host_port : (h p : List ℕ) (n : ℕ) → Host h → Ok n ≡ number_of 65535 p
+      → NtpIs (h ++ 58 ∷ p) (HostPort (place 4 (length h)) (Some n)) (ntp_host h (Some n))
+  bracketed_port : (h p : List ℕ) (n : ℕ) → ip_address h ≡ true → Ok n ≡ number_of 65535 p
+      → NtpIs (91 ∷ (h ++ 93 ∷ 58 ∷ p)) (HostPort (place 5 (length h)) (Some n)) (ntp_host h (Some n))
 
 -- what was accepted as a port, and as an address
-data PortIs (s : List ℕ) : OptPort → Type 0 where
-  port_is : (n : ℕ) → Value n ≡ number_of 65535 s → PortIs s (SomePort n)
+data PortIs (s : List ℕ) : Option ℕ → Type 0 where
+  port_is : (n : ℕ) → Ok n ≡ number_of 65535 s → PortIs s (Some n)
 
-was_port : (r : Refusal) (s : List ℕ) (p : OptPort) → port_of r s ≡ accepted p → PortIs s p
+was_port : (r : Refusal) (s : List ℕ) (p : Option ℕ) → port_of r s ≡ Ok p → PortIs s p
 unfolding port_of
 was_port r s p h =
-    let t = through (or_refuse (number_of 65535 s) r) (λ n. accepted (SomePort n)) p h in
-    let k : p ≡ SomePort t.value = cc t.onward in
+    let t = through (or_refuse (number_of 65535 s) r) (λ n. Ok (Some n)) p h in
+    let k : p ≡ Some t.value = cc t.onward in
     rw k (port_is t.value (was_number (number_of 65535 s) r t.value t.is))
 
-was_address : (r : Refusal) (at : ℕ) (s : List ℕ) (p : OptPort) (a : NtpServerAddr) → address_of r at s p ≡ accepted a
+was_address : (r : Refusal) (at : ℕ) (s : List ℕ) (p : Option ℕ) (a : NtpServerAddr) → address_of r at s p ≡ Ok a
     → (ip_address s ≡ true) × (a ≡ HostPort (place at (length s)) p)
 unfolding address_of
 was_address r at s p a h = by_bool (ip_address s) (λ e. (e, cc (simp e at h))) (λ e. clash (cc (simp e at h)))
 
 -- the walk
-all_is : (v s : List ℕ) (a : NtpServerAddr) → drop 4 v ≡ s → ntp_of 4 s ≡ accepted a → a ≡ HostPort (place 4 (length s)) NoPort
+all_is : (v s : List ℕ) (a : NtpServerAddr) → drop 4 v ≡ s → ntp_of 4 s ≡ Ok a → a ≡ HostPort (place 4 (length s)) None
     → NtpIs s a (ntp_means v a)
-all_is v s a q h k = rw (k, bytes_front v 4 s [] (q ∙ sym (append-nil s))) (host s (h ∙ ap accepted k))
+all_is v s a q h k = rw (k, bytes_front v 4 s [] (q ∙ sym (append-nil s))) (host s (h ∙ ap Ok k))
 
-bracket_is : (v t : List ℕ) (a : NtpServerAddr) → drop 5 v ≡ t → bracket_of 4 (91 ∷ t) ≡ accepted a → NtpIs (91 ∷ t) a (ntp_means v a)
+bracket_is : (v t : List ℕ) (a : NtpServerAddr) → drop 5 v ≡ t → bracket_of 4 (91 ∷ t) ≡ Ok a → NtpIs (91 ∷ t) a (ntp_means v a)
 unfolding bracket_of
 bracket_is v t a q h =
     let i = before_pair 93 58 t in
@@ -85,17 +81,17 @@ bracket_is v t a q h =
     (λ l. by_bool (ends_in 93 t)
     (λ e.
     let g = take (length t - 1) t in
-    let w = was_address broken 5 g NoPort a (simp (l, e) at h) in
+    let w = was_address broken 5 g None a (simp (l, e) at h) in
     let c : g ++ 93 ∷ [] ≡ t = cut_end 93 t e in
     rw (w.1, bytes_front v 5 g (93 ∷ []) (q ∙ sym c)) (rw c at (bracketed g w.0)))
     (λ e. clash (cc (simp (l, e) at h))))
   where
-    cut : (g p : List ℕ) → g ++ 93 ∷ 58 ∷ p ≡ t → ip_address g ≡ true → (port : OptPort) → PortIs p port
+    cut : (g p : List ℕ) → g ++ 93 ∷ 58 ∷ p ≡ t → ip_address g ≡ true → (port : Option ℕ) → PortIs p port
         → a ≡ HostPort (place 5 (length g)) port → NtpIs (91 ∷ t) a (ntp_means v a)
     cut g p c ip port (port_is n e) k =
         rw (k, bytes_front v 5 g (93 ∷ 58 ∷ p) (q ∙ sym c)) (rw c at (bracketed_port g p n ip e))
 
-host_is : (v s : List ℕ) (a : NtpServerAddr) → drop 4 v ≡ s → starts (word "[") s ≡ false → ntp_of 4 s ≡ accepted a → host_of 4 s ≡ accepted a
+host_is : (v s : List ℕ) (a : NtpServerAddr) → drop 4 v ≡ s → starts (word "[") s ≡ false → ntp_of 4 s ≡ Ok a → host_of 4 s ≡ Ok a
     → NtpIs s a (ntp_means v a)
 unfolding host_of
 host_is v s a q b k h =
@@ -104,7 +100,7 @@ host_is v s a q b k h =
     (λ e. by_bool (eqb d 1) (λ f. clash (cc (simp (e, f) at h)))
     (λ f.
     let bad = refusal 6 (4 + d) (length s - d) in
-    let r = through (port_of bad (drop d s)) (λ port. accepted (HostPort (place 4 (d - 1)) port)) a (simp (e, f) at h) in
+    let r = through (port_of bad (drop d s)) (λ port. Ok (HostPort (place 4 (d - 1)) port)) a (simp (e, f) at h) in
     let z = eqb-false d 0 e in
     let o = eqb-false d 1 f in
     let n : suc (d - 1) ≡ d = omega arith in
@@ -113,13 +109,13 @@ host_is v s a q b k h =
     let c = cut_last 58 s (d - 1) (sym n) in
     cut g (drop d s) (rw n at c) (omega arith) r.value (was_port bad (drop d s) r.value r.is) (cc r.onward)))
   where
-    cut : (g p : List ℕ) → g ++ 58 ∷ p ≡ s → 0 < length g → (port : OptPort) → PortIs p port → a ≡ HostPort (place 4 (length g)) port
+    cut : (g p : List ℕ) → g ++ 58 ∷ p ≡ s → 0 < length g → (port : Option ℕ) → PortIs p port → a ≡ HostPort (place 4 (length g)) port
         → NtpIs s a (ntp_means v a)
     cut g p c l port (port_is n e) k =
         let t : Host g = record { some_bytes = l; no_bracket = sym (first_byte g (58 ∷ p) l) ∙ rw c b } in
         rw (k, bytes_front v 4 g (58 ∷ p) (q ∙ sym c)) (rw c at (host_port g p n t e))
 
-pub ntp_is : (v s : List ℕ) (a : NtpServerAddr) → drop 4 v ≡ s → ntp_of 4 s ≡ accepted a → NtpIs s a (ntp_means v a)
+pub ntp_is : (v s : List ℕ) (a : NtpServerAddr) → drop 4 v ≡ s → ntp_of 4 s ≡ Ok a → NtpIs s a (ntp_means v a)
 unfolding ntp_of
 ntp_is v s a q h =
     by_bool (empty s) (λ e. clash (cc (simp e at h)))
@@ -161,7 +157,7 @@ ntp_short (host_port h p n g e) = omega (arith, length-append h (58 ∷ p), text
 ntp_short (bracketed_port h p n ip e) = omega (arith, length-append h (93 ∷ 58 ∷ p), text_length_lem h n, number_short 65535 p n (omega arith) e)
 
 -- it is well-formed
-pub ntp_form : {s : List ℕ} {a : NtpServerAddr} {m : RefMeaning} → NtpIs s a m → utf8_of s ≡ Well → utf8_of (ntp_text m) ≡ Well
+pub ntp_form : {s : List ℕ} {a : NtpServerAddr} {m : RefMeaning} → NtpIs s a m → utf8_of s ≡ (Ok tt) → utf8_of (ntp_text m) ≡ (Ok tt)
 unfolding ntp_text ref_meaning_text
 ntp_form traceable w = w
 ntp_form (host h r) w = w
@@ -188,7 +184,7 @@ ntp_fits (bracketed_port h p n ip e) l c =
 
 -- and it reads back, but for the one class
 pub ntp_back : {s : List ℕ} {a : NtpServerAddr} {m : RefMeaning} → NtpIs s a m → (w : List ℕ) → drop 4 w ≡ ntp_text m
-    → (ntp_of 4 (ntp_text m) >>= λ b. accepted (ntp_means w b)) ≡ cond (in_class m) (refuse 4 4 (length (ntp_text m))) (accepted m)
+    → (ntp_of 4 (ntp_text m) >>= λ b. Ok (ntp_means w b)) ≡ cond (in_class m) (refuse 4 4 (length (ntp_text m))) (Ok m)
 unfolding ntp_text ref_meaning_text in_class ntp_of same
 ntp_back traceable w q = refl
 ntp_back (host h r) w q = simp (r, bytes_front w 4 h [] (q ∙ sym (append-nil h)))
@@ -198,7 +194,7 @@ ntp_back (bracketed_port h p n ip e) w q = text_back h n (number_le 65535 n p e)
 
 -- in the class, a text is that of one meaning
 data Classed : RefMeaning → Type 0 where
-  classed : (h : List ℕ) (n : ℕ) → n ≤ 65535 → has_colon h ≡ true → Classed (ntp_host h (some n))
+  classed : (h : List ℕ) (n : ℕ) → n ≤ 65535 → has_colon h ≡ true → Classed (ntp_host h (Some n))
 
 in_class_lem : {s : List ℕ} {a : NtpServerAddr} {m : RefMeaning} → NtpIs s a m → in_class m ≡ true → Classed m
 unfolding in_class

@@ -1,9 +1,9 @@
 -- An NTP host: what the reader makes of an address that stands alone, and of a host with a port as it is written. Assumes nothing.
+use Rattle.std.specs.Prelude.{Some, None, Ok}
 use Prim.Native.Nat.{ℕ, suc, ◌+◌, ◌-◌, ◌≤◌, ◌<◌}
 use mathlib.Core.Path.{◌≡◌, refl, sym, ap, ◌∙◌}
 use mathlib.Core.List.{List, [], ◌∷◌, ◌++◌, append_assoc}
 use mathlib.Core.Bool.{true, false, cond, ◌&&◌, not}
-use mathlib.Core.Option.{some}
 use native.Mathlib.Omega.{arith}
 use native.Mathlib.Numerals.{add-one}
 use lib.Dec.{ltb}
@@ -21,14 +21,12 @@ use Rattle.abnf.proofs.Sizes.{count_of, count_append, count_none}
 use Rattle.number.specs.Decimal.{decimal}
 use Rattle.number.proofs.Written.{number_back_lem, number_not, decimal_free, decimal_ascii}
 use Rattle.utf8.specs.Utf8.{utf8_of}
-use Rattle.utf8.specs.declared.Utf8.TheVariants.{Well}
 use Rattle.utf8.proofs.Text.{utf8_ascii, utf8_append, utf8_all_ascii}
 use Rattle.ipaddr.specs.Address.{ip_address}
 use Rattle.ipaddr.proofs.Fits.{address_byte, address_lacks, address_bytes, address_plain, address_some, one_colon}
 use Rattle.clock.specs.Refusal.{refusal}
-use Rattle.clock.specs.declared.OptPort.TheVariants.{NoPort, SomePort}
 use Rattle.clock.specs.declared.NtpServerAddr.TheVariants.{HostPort}
-use Rattle.meaning.specs.Answer.{accepted, refuse, ◌>>=◌}
+use Rattle.meaning.specs.Answer.{refuse, ◌>>=◌}
 use Rattle.meaning.specs.ReferenceClock.{port_of, address_of, bracket_of, host_of, ntp_of}
 use Rattle.meaning.specs.Meaning.{ntp_host, ntp_means}
 use Rattle.meaning.specs.Text.{has_colon, host_text}
@@ -64,7 +62,7 @@ module _ (h : List ℕ) (ip : ip_address h ≡ true) where
       (λ e. clash (not_in 93 (take i h) (drop (suc i) h) refl (cut_first 93 h (ltb-true i (length h) e))))
       (λ e. omega (arith, before_le 93 h, ltb-false i (length h) e))
 
-  pub address_alone : ntp_of 4 h ≡ accepted (HostPort (place 4 (length h)) NoPort)
+  pub address_alone : ntp_of 4 h ≡ Ok (HostPort (place 4 (length h)) None)
   unfolding ntp_of address_byte
   address_alone =
       let w : same h (word "/traceable/") ≡ false =
@@ -72,7 +70,7 @@ module _ (h : List ℕ) (ip : ip_address h ≡ true) where
       (λ e. clash (not_in 47 [] (word "traceable/") refl (sym (same_eq h (word "/traceable/") e)))) (λ e. e) in
       simp (ne_eqb (length h) 0 (λ e. omega (arith, address_some h ip)), w, ip)
 
-  pub address_form : utf8_of h ≡ Well
+  pub address_form : utf8_of h ≡ (Ok tt)
   address_form = utf8_all_ascii h (go h (address_bytes h ip))
     where
       go : (s : List ℕ) → All address_byte s → ascii s ≡ true
@@ -81,7 +79,7 @@ module _ (h : List ℕ) (ip : ip_address h ≡ true) where
 
 -- a host with a port, written
 module _ (h : List ℕ) (n : ℕ) where
-  pub text_length_lem : length (host_text h (some n)) ≤ length h + (length (decimal n) + 3)
+  pub text_length_lem : length (host_text h (Some n)) ≤ length h + (length (decimal n) + 3)
   text_length_lem =
       by_bool (has_colon h) (λ e. simp (e, length-append) (omega arith)) (λ e. simp (e, length-append) (omega arith))
 
@@ -90,18 +88,18 @@ module _ (h : List ℕ) (n : ℕ) where
   inner = h ++ 93 ∷ 58 ∷ decimal n
 
   module _ (le : n ≤ 65535) where
-    pub text_form : utf8_of h ≡ Well → utf8_of (host_text h (some n)) ≡ Well
+    pub text_form : utf8_of h ≡ (Ok tt) → utf8_of (host_text h (Some n)) ≡ (Ok tt)
     text_form w =
-        let d : utf8_of (decimal n) ≡ Well = utf8_all_ascii (decimal n) (decimal_ascii n (omega arith)) in
-        let p : utf8_of (58 ∷ decimal n) ≡ Well = utf8_ascii 58 (decimal n) (omega arith) d in
-        let i : utf8_of inner ≡ Well = utf8_append h (93 ∷ 58 ∷ decimal n) w (utf8_ascii 93 (58 ∷ decimal n) (omega arith) p) in
+        let d : utf8_of (decimal n) ≡ (Ok tt) = utf8_all_ascii (decimal n) (decimal_ascii n (omega arith)) in
+        let p : utf8_of (58 ∷ decimal n) ≡ (Ok tt) = utf8_ascii 58 (decimal n) (omega arith) d in
+        let i : utf8_of inner ≡ (Ok tt) = utf8_append h (93 ∷ 58 ∷ decimal n) w (utf8_ascii 93 (58 ∷ decimal n) (omega arith) p) in
         by_bool (has_colon h) (λ e. simp e (utf8_ascii 91 inner (omega arith) i)) (λ e. simp e (utf8_append h (58 ∷ decimal n) w p))
 
     port_free : through_last 58 (decimal n) ≡ 0
     port_free = decimal_free 58 n refl (omega arith)
 
     -- a host without a colon: the one colon is the last one, and is in no address
-    plain_back : Host h → has_colon h ≡ false → ntp_of 4 (h ++ 58 ∷ decimal n) ≡ accepted (HostPort (place 4 (length h)) (SomePort n))
+    plain_back : Host h → has_colon h ≡ false → ntp_of 4 (h ++ 58 ∷ decimal n) ≡ Ok (HostPort (place 4 (length h)) (Some n))
     unfolding ntp_of host_of port_of count_of through_last
     plain_back g e =
         let t = h ++ 58 ∷ decimal n in
@@ -129,7 +127,7 @@ module _ (h : List ℕ) (n : ℕ) where
         )
 
     -- in brackets, where the first "]:" is the last one
-    at_joint : before_pair 93 58 inner ≡ length h → bracket_of 4 (91 ∷ inner) ≡ address_of (refusal 4 4 (length (91 ∷ inner))) 5 h (SomePort n)
+    at_joint : before_pair 93 58 inner ≡ length h → bracket_of 4 (91 ∷ inner) ≡ address_of (refusal 4 4 (length (91 ∷ inner))) 5 h (Some n)
     unfolding bracket_of port_of
     at_joint j =
         simp (
@@ -156,7 +154,7 @@ module _ (h : List ℕ) (n : ℕ) where
         )
 
     bracket_back : ntp_of 4 (91 ∷ inner)
-        ≡ cond (ip_address h) (accepted (HostPort (place 5 (length h)) (SomePort n))) (refuse 4 4 (length (91 ∷ inner)))
+        ≡ cond (ip_address h) (Ok (HostPort (place 5 (length h)) (Some n))) (refuse 4 4 (length (91 ∷ inner)))
     unfolding ntp_of same address_of address_byte
     bracket_back =
         let i = before_pair 93 58 inner in
@@ -167,9 +165,9 @@ module _ (h : List ℕ) (n : ℕ) where
         by_bool (ip_address h) (λ ip. absurd (omega (arith, pair_join 93 58 h (decimal n) (no_close h ip)))) (λ ip. simp ip (before_joint l)))
         (λ e. at_joint (omega (arith, pair_join_le 93 58 h (decimal n), ltb-false i (length h) e))))
 
-    pub text_back : Host h → (w : List ℕ) → drop 4 w ≡ host_text h (some n)
-        → (ntp_of 4 (host_text h (some n)) >>= λ b. accepted (ntp_means w b))
-        ≡ cond (has_colon h && not (ip_address h)) (refuse 4 4 (length (host_text h (some n)))) (accepted (ntp_host h (some n)))
+    pub text_back : Host h → (w : List ℕ) → drop 4 w ≡ host_text h (Some n)
+        → (ntp_of 4 (host_text h (Some n)) >>= λ b. Ok (ntp_means w b))
+        ≡ cond (has_colon h && not (ip_address h)) (refuse 4 4 (length (host_text h (Some n)))) (Ok (ntp_host h (Some n)))
     text_back g w q =
         by_bool (has_colon h)
         (λ e.
@@ -187,7 +185,7 @@ module _ (h : List ℕ) (n : ℕ) where
 
 -- a text in brackets is that of one host and one port: it is cut at its last colon
 pub one_host : (h g : List ℕ) (n k : ℕ) → n ≤ 65535 → k ≤ 65535 → has_colon h ≡ true → has_colon g ≡ true
-    → host_text h (some n) ≡ host_text g (some k) → ntp_host h (some n) ≡ ntp_host g (some k)
+    → host_text h (Some n) ≡ host_text g (Some k) → ntp_host h (Some n) ≡ ntp_host g (Some k)
 one_host h g n k ln lk ch cg t =
     let e : inner h n ≡ inner g k = ap (drop 1) (simp (ch, cg) at t) in
     let l : length g ≡ length h = omega (arith, last_colon h n ln, last_colon g k lk, ap (through_last 58) e) in

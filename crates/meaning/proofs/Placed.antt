@@ -1,4 +1,5 @@
 -- Demand 1, of refusals: each has a number from 1 to 22 and a place inside the value. One walk of each reader. Assumes nothing.
+use Rattle.std.specs.Prelude.{Option, Result, ⊤, Ok, Err}
 use Prim.Native.Nat.{ℕ, ◌+◌, ◌≤◌, ◌<◌}
 use mathlib.Core.Path.{◌≡◌, refl}
 use mathlib.Core.List.{List}
@@ -13,44 +14,36 @@ use Rattle.text.specs.declared.Place.{Place}
 use Rattle.text.proofs.Bools.{clash, and_left, and_right}
 use Rattle.text.proofs.Cuts.{before_le, before_length, last_le}
 use Rattle.number.specs.Decimal.{number_of}
-use Rattle.number.specs.declared.Number.{Number}
-use Rattle.number.specs.declared.Number.TheVariants.{Value, Refused}
 use Rattle.eui64.specs.Eui64.{eui64_of}
-use Rattle.eui64.specs.declared.Eui64Read.{Eui64Read}
-use Rattle.eui64.specs.declared.Eui64Read.TheVariants as eui
 use Rattle.eui64.specs.declared.BrokenRule.{BrokenRule}
 use Rattle.eui64.specs.declared.BrokenRule.TheVariants.{Length, SegmentLength, SegmentDigits}
 use Rattle.eui64.proofs.Written.{eui_fault}
 use Rattle.utf8.specs.Utf8.{utf8_of}
-use Rattle.utf8.specs.declared.Utf8.{Utf8}
-use Rattle.utf8.specs.declared.Utf8.TheVariants.{Well, Ill}
 use Rattle.utf8.proofs.Text.{utf8_ill}
 use Rattle.ipaddr.specs.Address.{ip_address}
 use Rattle.clock.specs.Refusal.{refusal}
 use Rattle.clock.specs.Records.{clock_source_ext}
 use Rattle.mediarecord.specs.Records.{media_clock_ext}
 use Rattle.clock.specs.declared.Refusal.{Refusal}
-use Rattle.clock.specs.declared.OptPort.{OptPort}
-use Rattle.clock.specs.declared.OptValue.{OptValue}
 use Rattle.clock.specs.declared.ReferenceClock.{ReferenceClock}
-use Rattle.clock.specs.declared.ReferenceClockRead.TheVariants as ref
 use Rattle.mediarecord.specs.declared.MediaClockSource.{MediaClockSource}
-use Rattle.mediarecord.specs.declared.MediaClockSourceRead.TheVariants as media
-use Rattle.meaning.specs.Answer.{Answer, accepted, refused, refuse, ◌>>=◌, empty, or_refuse, number_at, extension_of, most_bytes, if_well, guarded}
+use Rattle.meaning.specs.Answer.{Answer, refuse, ◌>>=◌, empty, or_refuse, number_at, extension_of, most_bytes, if_well, guarded}
 use Rattle.meaning.specs.Domain.{Spelling, bare, bare_read}
 use Rattle.meaning.specs.ReferenceClock.{port_of, address_of, bracket_of, host_of, ntp_of, version_of, gmid_or, gmid_of, domain_of, server_of, ptp_of, clock_of}
-use Rattle.meaning.specs.ReferenceClock.{reference_clock_of, as_reference_clock_read, read_reference_clock}
+use Rattle.meaning.specs.ReferenceClock.{reference_clock_of, read_reference_clock}
 use Rattle.meaning.specs.MediaClock.{most32, denominator_of, ratio_of, rate_of, offset_of, direct_of, broken_number, stream_or, stream_of}
-use Rattle.meaning.specs.MediaClock.{media_clock_of, tag_of, id_of, tagged_of, source_of, media_clock_source_of, as_media_clock_source_read, read_media_clock_source}
+use Rattle.meaning.specs.MediaClock.{media_clock_of, tag_of, id_of, tagged_of, source_of, media_clock_source_of, read_media_clock_source}
 use Rattle.meaning.specs.Demand1.{RefusalOf, RefRefusals, MediaRefusals}
 use Rattle.meaning.proofs.Told.{starts_length}
+use Rattle.eui64.specs.declared.Fault.{Fault}
+use Rattle.number.specs.declared.Reason.{Reason}
 
 -- an answer of which a refusal is one of the value v
 data Placed {A : Type 0} (v : List ℕ) : Answer A → Type 0 where
-  read : (a : A) → Placed v (accepted a)
-  not_read : (r : Refusal) → RefusalOf v r → Placed v (refused r)
+  read : (a : A) → Placed v (Ok a)
+  not_read : (r : Refusal) → RefusalOf v r → Placed v (Err r)
 
-placed_refusal : {A : Type 0} {v : List ℕ} {x : Answer A} (r : Refusal) → Placed v x → x ≡ refused r → RefusalOf v r
+placed_refusal : {A : Type 0} {v : List ℕ} {x : Answer A} (r : Refusal) → Placed v x → x ≡ Err r → RefusalOf v r
 placed_refusal r (read a) h = clash (cc)
 placed_refusal r (not_read q p) h = let e : q ≡ r = cc in rw e at p
 
@@ -99,14 +92,14 @@ module _ {v : List ℕ} where
       onward (read a) p = p a
       onward (not_read r q) p = not_read r q
 
-  number_or : (n : Number) (r : Refusal) → RefusalOf v r → Placed v (or_refuse n r)
-  number_or (Value n) r p = read n
-  number_or (Refused why) r p = not_read r p
+  number_or : (n : Result ℕ Reason) (r : Refusal) → RefusalOf v r → Placed v (or_refuse n r)
+  number_or (Ok n) r p = read n
+  number_or (Err why) r p = not_read r p
 
   number : (limit k at : ℕ) (s : List ℕ) → numbered k ≡ true → at + length s ≤ length v → Placed v (number_at limit k at s)
   number limit k at s e h = number_or (number_of limit s) (refusal k at (length s)) (at_place e h)
 
-  extension : {A : Type 0} (make : Place → OptValue → A) (k at : ℕ) (s : List ℕ) → numbered k ≡ true → at ≤ length v
+  extension : {A : Type 0} (make : Place → Option Place → A) (k at : ℕ) (s : List ℕ) → numbered k ≡ true → at ≤ length v
       → Placed v (extension_of make k at s)
   unfolding extension_of
   extension make k at s e h = either (eqb (before 61 s) 0) (stop e (omega arith)) (read _)
@@ -116,7 +109,7 @@ module _ {v : List ℕ} where
   unfolding port_of
   port r s p = onward (number_or (number_of 65535 s) r p) (λ n. read _)
 
-  address : (r : Refusal) (at : ℕ) (s : List ℕ) (o : OptPort) → RefusalOf v r → Placed v (address_of r at s o)
+  address : (r : Refusal) (at : ℕ) (s : List ℕ) (o : Option ℕ) → RefusalOf v r → Placed v (address_of r at s o)
   unfolding address_of
   address r at s o p = either (ip_address s) (read _) (not_read r p)
 
@@ -128,9 +121,9 @@ module _ {v : List ℕ} where
       (either (same s (word "IEEE1588-2008")) (read _)
       (either (same s (word "IEEE802.1AS-2011")) (read _) (read _))))
 
-  gmid_or_lem : (x : Eui64Read) (r : Refusal) → RefusalOf v r → Placed v (gmid_or x r)
-  gmid_or_lem (eui.Id n) r p = read _
-  gmid_or_lem (eui.Refused fault) r p = not_read r p
+  gmid_or_lem : (x : Result ℕ Fault) (r : Refusal) → RefusalOf v r → Placed v (gmid_or x r)
+  gmid_or_lem (Ok n) r p = read _
+  gmid_or_lem (Err fault) r p = not_read r p
 
   -- of a text that ends inside the value
   module _ (at : ℕ) (s : List ℕ) (h : at + length s ≤ length v) where
@@ -238,9 +231,9 @@ module _ {v : List ℕ} where
         (choose (starts (word "=") s) (λ e. offset (at + 1) (drop 1 s) (beyond at s h (word "=") e))
         (λ e. choose (starts (word " ") s) (λ f. onward (rate (at + 1) (drop 1 s) (λ l. beyond at s h (word " ") f)) (λ r. read _)) (λ f. stop refl h)))
 
-    stream_or_lem : (x : Eui64Read) → x ≡ eui64_of s → Placed v (stream_or at x)
-    stream_or_lem (eui.Id n) e = read _
-    stream_or_lem (eui.Refused fault) e = stop (broken_numbered fault.rule) (omega (arith, eui_fault fault s e))
+    stream_or_lem : (x : Result ℕ Fault) → x ≡ eui64_of s → Placed v (stream_or at x)
+    stream_or_lem (Ok n) e = read _
+    stream_or_lem (Err fault) e = stop (broken_numbered fault.rule) (omega (arith, eui_fault fault s e))
 
     stream : Placed v (stream_of at s)
     unfolding stream_of
@@ -286,22 +279,22 @@ guard_placed {A} v x p =
     choose (ltb most_bytes (length v)) (λ e. stop refl (omega (arith, ltb-true most_bytes (length v) e)))
     (λ e. go (utf8_of v) refl)
   where
-    go : (u : Utf8) → utf8_of v ≡ u → Placed v (if_well u x)
-    go Well e = p
-    go (Ill n) e = stop refl (omega (arith, utf8_ill v n e))
+    go : (u : Result ⊤ ℕ) → utf8_of v ≡ u → Placed v (if_well u x)
+    go (Ok tt) e = p
+    go (Err n) e = stop refl (omega (arith, utf8_ill v n e))
 
 pub ref_refusals : RefRefusals
 unfolding read_reference_clock reference_clock_of
 ref_refusals v r h = go (guarded v (clock_of bare v)) (guard_placed v (clock_of bare v) (clock_placed bare bare_domain)) h
   where
-    go : (x : Answer ReferenceClock) → Placed v x → as_reference_clock_read x ≡ ref.Refused r → RefusalOf v r
-    go (accepted c) p h = clash (cc)
-    go (refused q) p h = placed_refusal r p (cc)
+    go : (x : Answer ReferenceClock) → Placed v x → x ≡ Err r → RefusalOf v r
+    go (Ok c) p h = clash (cc)
+    go (Err q) p h = placed_refusal r p (cc)
 
 pub media_refusals : MediaRefusals
 unfolding read_media_clock_source media_clock_source_of
 media_refusals v r h = go (guarded v (source_of v)) (guard_placed v (source_of v) source_placed) h
   where
-    go : (x : Answer MediaClockSource) → Placed v x → as_media_clock_source_read x ≡ media.Refused r → RefusalOf v r
-    go (accepted m) p h = clash (cc)
-    go (refused q) p h = placed_refusal r p (cc)
+    go : (x : Answer MediaClockSource) → Placed v x → x ≡ Err r → RefusalOf v r
+    go (Ok m) p h = clash (cc)
+    go (Err q) p h = placed_refusal r p (cc)

@@ -1,5 +1,6 @@
 -- PTP: a version is written as it was read, and a GMID with 23 bytes and no colon among them, so that a written text is cut where the value
 -- was, and each part stands where it was read. Assumes nothing.
+use Rattle.std.specs.Prelude.{Result, Option, Some, None, Ok, Err}
 use Prim.Native.Nat.{ℕ, ◌+◌, ◌≤◌, ◌<◌, ◌^◌}
 use mathlib.Core.Path.{◌≡◌, refl, sym, ap, ◌∙◌}
 use mathlib.Core.List.{List, [], ◌∷◌, ◌++◌, append-nil}
@@ -17,23 +18,19 @@ use Rattle.text.proofs.Bools.{by_bool, clash, both}
 use Rattle.text.proofs.Cuts.{same_eq, before_length, before_take, before_append, before_join, cut_first, drop_join}
 use Rattle.text.proofs.Laws.{same_lengths}
 use Rattle.eui64.specs.Eui64.{eui64_of, eui64_text}
-use Rattle.eui64.specs.declared.Eui64Read.{Eui64Read}
-use Rattle.eui64.specs.declared.Eui64Read.TheVariants.{Id, Refused}
 use Rattle.eui64.proofs.Written.{eui_back, eui_length, eui_free, eui_ascii, eui_bound, eui_read_length}
 use Rattle.utf8.proofs.Text.{utf8_ascii, utf8_append, utf8_cut, utf8_all_ascii}
 use Rattle.clock.specs.Refusal.{refusal}
 use Rattle.clock.specs.Records as made
 use Rattle.clock.specs.declared.Refusal.{Refusal}
 use Rattle.clock.specs.declared.Eui64.{Eui64}
-use Rattle.clock.specs.declared.OptDomain.{OptDomain}
-use Rattle.clock.specs.declared.OptDomain.TheVariants.{NoDomain, SomeDomain}
 use Rattle.clock.specs.declared.PtpDomain.{PtpDomain}
 use Rattle.clock.specs.declared.PtpVersion.{PtpVersion}
 use Rattle.clock.specs.declared.PtpVersion.TheVariants as version
 use Rattle.clock.specs.declared.PtpServer.{PtpServer}
 use Rattle.clock.specs.declared.PtpServer.TheVariants as source
 use Rattle.clock.specs.declared.Ptp.{Ptp}
-use Rattle.meaning.specs.Answer.{accepted, ◌>>=◌, empty}
+use Rattle.meaning.specs.Answer.{◌>>=◌, empty}
 use Rattle.meaning.specs.Meaning.{RefMeaning, ptp, version_means, server_means, domain_means}
 use Rattle.meaning.specs.Domain.{Spelling}
 use Rattle.meaning.specs.ReferenceClock.{version_of, gmid_or, gmid_of, domain_of, server_of, ptp_of}
@@ -41,6 +38,7 @@ use Rattle.meaning.specs.Text.{version_text, server_text}
 use Rattle.meaning.specs.Inside.{version_inside, server_inside}
 use Rattle.meaning.proofs.Told.{through, Told, back_through, further, bytes_front}
 use Rattle.meaning.proofs.Spelling.{Lawful}
+use Rattle.eui64.specs.declared.Fault.{Fault}
 
 -- the version: one of three words, or a place of its own
 data VersionIs (at : ℕ) (x : List ℕ) : PtpVersion → Type 0 where
@@ -49,7 +47,7 @@ data VersionIs (at : ℕ) (x : List ℕ) : PtpVersion → Type 0 where
   is_2011 : x ≡ word "IEEE802.1AS-2011" → VersionIs at x version.Ieee8021As_2011
   is_own : VersionIs at x (version.Ext (place at (length x)))
 
-version_is : (at : ℕ) (x : List ℕ) (r : PtpVersion) → version_of at x ≡ accepted r → VersionIs at x r
+version_is : (at : ℕ) (x : List ℕ) (r : PtpVersion) → version_of at x ≡ Ok r → VersionIs at x r
 unfolding version_of
 version_is at x r h =
     by_bool (empty x) (λ a. clash (cc (simp a at h)))
@@ -82,35 +80,35 @@ module _ (v : List ℕ) (at : ℕ) (x : List ℕ) where
   version_same w r q (is_2011 e) = refl
   version_same w r q is_own = rw q
 
-pub was_gmid : (x : Eui64Read) (r : Refusal) (g : Eui64) → gmid_or x r ≡ accepted g → Id g.id ≡ x
-was_gmid (Id n) r g h = let k : g ≡ made.eui64 n = cc in rw k
-was_gmid (Refused fault) r g h = clash (cc)
+pub was_gmid : (x : Result ℕ Fault) (r : Refusal) (g : Eui64) → gmid_or x r ≡ Ok g → Ok g.id ≡ x
+was_gmid (Ok n) r g h = let k : g ≡ made.eui64 n = cc in rw k
+was_gmid (Err fault) r g h = clash (cc)
 
 module _ (spelling : Spelling) where
   -- the server: a word, or a GMID of 23 bytes, alone or with a domain behind it
   data ServerIs (at : ℕ) (s : List ℕ) : PtpServer → Type 0 where
     is_traceable : s ≡ word "traceable" → ServerIs at s source.Traceable
-    is_gmid : (g : Eui64) → Id g.id ≡ eui64_of s → ServerIs at s (source.GmidDomain g NoDomain)
-    is_domain : (g : Eui64) (d : PtpDomain) → 23 < length s → take 23 s ++ 58 ∷ drop 24 s ≡ s → Id g.id ≡ eui64_of (take 23 s)
-        → spelling.read (at + 24) (drop 24 s) ≡ accepted d → ServerIs at s (source.GmidDomain g (SomeDomain d))
+    is_gmid : (g : Eui64) → Ok g.id ≡ eui64_of s → ServerIs at s (source.GmidDomain g None)
+    is_domain : (g : Eui64) (d : PtpDomain) → 23 < length s → take 23 s ++ 58 ∷ drop 24 s ≡ s → Ok g.id ≡ eui64_of (take 23 s)
+        → spelling.read (at + 24) (drop 24 s) ≡ Ok d → ServerIs at s (source.GmidDomain g (Some d))
 
-  gmid_is : (at : ℕ) (s : List ℕ) (g : Eui64) (o : OptDomain) → Id g.id ≡ eui64_of (take (before 58 s) s)
-      → domain_of spelling (before 58 s) at s ≡ accepted o → ServerIs at s (source.GmidDomain g o)
+  gmid_is : (at : ℕ) (s : List ℕ) (g : Eui64) (o : Option PtpDomain) → Ok g.id ≡ eui64_of (take (before 58 s) s)
+      → domain_of spelling (before 58 s) at s ≡ Ok o → ServerIs at s (source.GmidDomain g o)
   unfolding domain_of
   gmid_is at s g o e h =
       let n : before 58 s ≡ 23 = sym (before_length 58 s) ∙ eui_read_length (take (before 58 s) s) g.id e in
       let h = rw n at h in
       by_bool (ltb 23 (length s))
       (λ f.
-      let r = through (spelling.read (at + 24) (drop 24 s)) (λ d. accepted (SomeDomain d)) o (simp f at h) in
-      let k : o ≡ SomeDomain r.value = cc r.onward in
+      let r = through (spelling.read (at + 24) (drop 24 s)) (λ d. Ok (Some d)) o (simp f at h) in
+      let k : o ≡ Some r.value = cc r.onward in
       let l = ltb-true 23 (length s) f in
       rw k (is_domain g r.value l (rw n at (cut_first 58 s (omega arith))) (rw n at e) r.is))
       (λ f.
-      let k : o ≡ NoDomain = cc (simp f at h) in
+      let k : o ≡ None = cc (simp f at h) in
       rw k (is_gmid g (rw (n, take_all 23 s (ltb-false 23 (length s) f)) at e)))
 
-  server_is : (at : ℕ) (s : List ℕ) (r : PtpServer) → server_of spelling at s ≡ accepted r → ServerIs at s r
+  server_is : (at : ℕ) (s : List ℕ) (r : PtpServer) → server_of spelling at s ≡ Ok r → ServerIs at s r
   unfolding server_of gmid_of
   server_is at s r h =
       by_bool (empty s) (λ e. clash (cc (simp e at h)))
@@ -118,14 +116,14 @@ module _ (spelling : Spelling) where
       (λ f. let k : r ≡ source.Traceable = cc (simp (e, f) at h) in rw k (is_traceable (same_eq s _ f)))
       (λ f.
       let i = before 58 s in
-      let a = through (gmid_of at (take i s)) (λ g. domain_of spelling i at s >>= λ d. accepted (source.GmidDomain g d)) r (simp (e, f) at h) in
-      let b = through (domain_of spelling i at s) (λ d. accepted (source.GmidDomain a.value d)) r a.onward in
+      let a = through (gmid_of at (take i s)) (λ g. domain_of spelling i at s >>= λ d. Ok (source.GmidDomain g d)) r (simp (e, f) at h) in
+      let b = through (domain_of spelling i at s) (λ d. Ok (source.GmidDomain a.value d)) r a.onward in
       let k : r ≡ source.GmidDomain a.value b.value = cc b.onward in
       rw k (gmid_is at s a.value b.value (was_gmid (eui64_of (take i s)) (refusal 9 at (length (take i s))) a.value a.is) b.is)))
 
   -- a GMID's text with the end of the value or a colon behind it is read as that GMID
-  gmid_back : (at g : ℕ) (u : List ℕ) (o : OptDomain) → g < 256 ^ 8 → before 58 u ≡ 0 → domain_of spelling 23 at (eui64_text g ++ u) ≡ accepted o
-      → server_of spelling at (eui64_text g ++ u) ≡ accepted (source.GmidDomain (made.eui64 g) o)
+  gmid_back : (at g : ℕ) (u : List ℕ) (o : Option PtpDomain) → g < 256 ^ 8 → before 58 u ≡ 0 → domain_of spelling 23 at (eui64_text g ++ u) ≡ Ok o
+      → server_of spelling at (eui64_text g ++ u) ≡ Ok (source.GmidDomain (made.eui64 g) o)
   unfolding server_of gmid_of
   gmid_back at g u o h z e =
       let l = eui_length g in
@@ -141,12 +139,12 @@ module _ (spelling : Spelling) where
       )
 
   -- what stands behind it is nothing, or the domain
-  alone : (at g : ℕ) → domain_of spelling 23 at (eui64_text g ++ []) ≡ accepted NoDomain
+  alone : (at g : ℕ) → domain_of spelling 23 at (eui64_text g ++ []) ≡ Ok None
   unfolding domain_of
   alone at g = simp (le-ltb 23 (length (eui64_text g ++ [])) (omega (arith, length-append (eui64_text g) [], eui_length g)))
 
-  followed : (at g : ℕ) (u : List ℕ) (d : PtpDomain) → spelling.read (at + 24) u ≡ accepted d
-      → domain_of spelling 23 at (eui64_text g ++ 58 ∷ u) ≡ accepted (SomeDomain d)
+  followed : (at g : ℕ) (u : List ℕ) (d : PtpDomain) → spelling.read (at + 24) u ≡ Ok d
+      → domain_of spelling 23 at (eui64_text g ++ 58 ∷ u) ≡ Ok (Some d)
   unfolding domain_of
   followed at g u d h =
       let n = eui_length g in
@@ -175,7 +173,7 @@ module _ (spelling : Spelling) where
         record {
           short = omega (arith, length-append t [], eui_read_length s g.id e);
           form = λ f. rw (append-nil t) (utf8_all_ascii t (eui_ascii g.id));
-          back = λ w p. rw (gmid_back at g.id [] NoDomain (eui_bound s g.id e) refl (alone at g.id));
+          back = λ w p. rw (gmid_back at g.id [] None (eui_bound s g.id e) refl (alone at g.id));
         }
     server_told v at s r q (is_domain g d m c e f) =
         let t = eui64_text g.id in
@@ -192,7 +190,7 @@ module _ (spelling : Spelling) where
               λ w p.
               let b = back_through told w (further w at 24 (t ++ 58 ∷ u) p ∙ drop_join t 58 u 23 n) in
               let o = followed at g.id u b.value b.is in
-              rw (gmid_back at g.id (58 ∷ u) (SomeDomain b.value) (eui_bound (take 23 s) g.id e) refl o) (cc b.onward);
+              rw (gmid_back at g.id (58 ∷ u) (Some b.value) (eui_bound (take 23 s) g.id e) refl o) (cc b.onward);
         }
 
   -- the whole: cut at the first colon, with a version x before it and a server y behind it
@@ -201,10 +199,10 @@ module _ (spelling : Spelling) where
     pub y : List ℕ
     pub cut : x ++ 58 ∷ y ≡ s
     pub free : before 58 x ≡ length x
-    pub version : version_of at x ≡ accepted p.version
+    pub version : version_of at x ≡ Ok p.version
     pub server : ServerIs (at + (length x + 1)) y p.server
 
-  ptp_is : (at : ℕ) (s : List ℕ) (p : Ptp) → ptp_of spelling at s ≡ accepted p → PtpIs at s p
+  ptp_is : (at : ℕ) (s : List ℕ) (p : Ptp) → ptp_of spelling at s ≡ Ok p → PtpIs at s p
   unfolding ptp_of
   ptp_is at s p h =
       let i = before 58 s in
@@ -212,8 +210,8 @@ module _ (spelling : Spelling) where
       by_bool (ltb i (length s))
       (λ e.
       let y = drop (i + 1) s in
-      let a = through (version_of at (take i s)) (λ a. server_of spelling (at + (i + 1)) y >>= λ b. accepted (made.ptp a b)) p (simp e at h) in
-      let b = through (server_of spelling (at + (i + 1)) y) (λ b. accepted (made.ptp a.value b)) p a.onward in
+      let a = through (version_of at (take i s)) (λ a. server_of spelling (at + (i + 1)) y >>= λ b. Ok (made.ptp a b)) p (simp e at h) in
+      let b = through (server_of spelling (at + (i + 1)) y) (λ b. Ok (made.ptp a.value b)) p a.onward in
       let k : p ≡ made.ptp a.value b.value = cc b.onward in
       rw k
       (record {
@@ -227,8 +225,8 @@ module _ (spelling : Spelling) where
       (λ e. clash (cc (simp e at h)))
 
   -- such a text is read so
-  ptp_back : (at : ℕ) (x y : List ℕ) (a : PtpVersion) (b : PtpServer) → before 58 x ≡ length x → version_of at x ≡ accepted a
-      → server_of spelling (at + (length x + 1)) y ≡ accepted b → ptp_of spelling at (x ++ 58 ∷ y) ≡ accepted (made.ptp a b)
+  ptp_back : (at : ℕ) (x y : List ℕ) (a : PtpVersion) (b : PtpServer) → before 58 x ≡ length x → version_of at x ≡ Ok a
+      → server_of spelling (at + (length x + 1)) y ≡ Ok b → ptp_of spelling at (x ++ 58 ∷ y) ≡ Ok (made.ptp a b)
   unfolding ptp_of
   ptp_back at x y a b f i j =
       simp (
@@ -249,7 +247,7 @@ module _ (spelling : Spelling) (lawful : Lawful spelling) (v : List ℕ) (at : �
     server_at : drop (at + (length i.x + 1)) v ≡ i.y
     server_at = further v at (length i.x + 1) s q ∙ rw (← i.cut) (drop_join i.x 58 i.y (length i.x) refl)
 
-  pub ptp_inside : drop at v ≡ s → ptp_of spelling at s ≡ accepted p → (version_inside v p.version && server_inside v p.server) ≡ true
+  pub ptp_inside : drop at v ≡ s → ptp_of spelling at s ≡ Ok p → (version_inside v p.version && server_inside v p.server) ≡ true
   ptp_inside q h =
       let i = ptp_is spelling at s p h in
       let l = length-append i.x (58 ∷ i.y) in
@@ -257,7 +255,7 @@ module _ (spelling : Spelling) (lawful : Lawful spelling) (v : List ℕ) (at : �
       both (version_inside_lem v at i.x p.version (omega arith) (version_is at i.x p.version i.version))
       (server_inside_lem spelling lawful v (at + (length i.x + 1)) i.y p.server (server_at q i) n i.server)
 
-  pub ptp_told : drop at v ≡ s → ptp_of spelling at s ≡ accepted p
+  pub ptp_told : drop at v ≡ s → ptp_of spelling at s ≡ Ok p
       → Told (ptp_of spelling) ptp_means 0 at s
       (version_text (version_means v p.version) ++ 58 ∷ server_text spelling (server_means v p.server)) (ptp_means v p)
   ptp_told q h =

@@ -1,4 +1,5 @@
 -- A ts-refclk value, whole: each kind is written so that it reads back, but for the one class of NTP hosts. Assumes nothing.
+use Rattle.std.specs.Prelude.{Ok, Err}
 use Prim.Native.Nat.{ℕ, ◌+◌, ◌-◌, ◌≤◌}
 use mathlib.Core.Path.{◌≡◌, refl, sym, ap, ◌∙◌}
 use mathlib.Core.List.{List, ◌∷◌, ◌++◌}
@@ -11,7 +12,6 @@ use Rattle.text.specs.Word.{word, same, starts}
 use Rattle.text.proofs.Bools.{by_bool, clash}
 use Rattle.text.proofs.Cuts.{same_eq}
 use Rattle.utf8.specs.Utf8.{utf8_of}
-use Rattle.utf8.specs.declared.Utf8.TheVariants.{Well}
 use Rattle.utf8.proofs.Text.{utf8_append, utf8_cut, utf8_all_ascii}
 use Rattle.clock.specs.Refusal.{refusal}
 use Rattle.clock.specs.Records.{ntp, clock_source_ext}
@@ -20,7 +20,7 @@ use Rattle.clock.specs.declared.Ptp.{Ptp}
 use Rattle.clock.specs.declared.PrivateSource.TheVariants as private
 use Rattle.clock.specs.declared.ReferenceClock.{ReferenceClock}
 use Rattle.clock.specs.declared.ReferenceClock.TheVariants as clock
-use Rattle.meaning.specs.Answer.{Answer, accepted, refused, refuse, ◌>>=◌, extension_of}
+use Rattle.meaning.specs.Answer.{Answer, refuse, ◌>>=◌, extension_of}
 use Rattle.meaning.specs.Meaning.{RefMeaning, ref_ext, ntp_means, version_means, server_means, ref_meaning}
 use Rattle.meaning.specs.Domain.{Spelling}
 use Rattle.meaning.specs.ReferenceClock.{ntp_of, ptp_of, clock_of, reference_clock_of}
@@ -36,18 +36,18 @@ use Rattle.meaning.proofs.Ptp.{ptp_inside, ptp_told}
 unfoldable pub read_back : RefMeaning → List ℕ → Answer RefMeaning
 read_back m t =
     cond (in_class m)
-    (refused (cond (ltb 1024 (length t)) (refusal 1 1024 (length t - 1024)) (refusal 4 4 (length t - 4))))
-    (accepted m)
+    (Err (cond (ltb 1024 (length t)) (refusal 1 1024 (length t - 1024)) (refusal 4 4 (length t - 4))))
+    (Ok m)
 
 module _ (spelling : Spelling) where
   -- how a value can have been accepted: as an NTP or a PTP source, or as what is written as it was read
   data RefIs (v : List ℕ) : ReferenceClock → Type 0 where
-    is_ntp : (a : NtpServerAddr) → starts (word "ntp=") v ≡ true → ntp_of 4 (drop 4 v) ≡ accepted a → RefIs v (clock.Ntp (ntp a))
-    is_ptp_lem : (p : Ptp) → starts (word "ptp=") v ≡ true → ptp_of spelling 4 (drop 4 v) ≡ accepted p → RefIs v (clock.Ptp p)
+    is_ntp : (a : NtpServerAddr) → starts (word "ntp=") v ≡ true → ntp_of 4 (drop 4 v) ≡ Ok a → RefIs v (clock.Ntp (ntp a))
+    is_ptp_lem : (p : Ptp) → starts (word "ptp=") v ≡ true → ptp_of spelling 4 (drop 4 v) ≡ Ok p → RefIs v (clock.Ptp p)
     as_it_is : (c : ReferenceClock) → ref_meaning_text spelling (ref_meaning v c) ≡ v → reference_clock_inside v c ≡ true
         → in_class (ref_meaning v c) ≡ false → RefIs v c
 
-  ext_is : (v : List ℕ) (c : ReferenceClock) → (extension_of clock_source_ext 11 0 v >>= λ e. accepted (clock.Ext e)) ≡ accepted c → RefIs v c
+  ext_is : (v : List ℕ) (c : ReferenceClock) → (extension_of clock_source_ext 11 0 v >>= λ e. Ok (clock.Ext e)) ≡ Ok c → RefIs v c
   unfolding ref_meaning ref_meaning_text reference_clock_inside in_class
   ext_is v c h =
       let r = was_made (extension_of clock_source_ext 11 0 v) clock.Ext c h in
@@ -59,10 +59,10 @@ module _ (spelling : Spelling) where
   -- a whole word: its text is itself
   word_is : (v : List ℕ) (c : ReferenceClock) (w : List ℕ) (d : ReferenceClock) → same v w ≡ true
       → ref_meaning_text spelling (ref_meaning v d) ≡ w → reference_clock_inside v d ≡ true → in_class (ref_meaning v d) ≡ false
-      → ◌≡◌ {A = Answer ReferenceClock} (accepted d) (accepted c) → RefIs v c
+      → ◌≡◌ {A = Answer ReferenceClock} (Ok d) (Ok c) → RefIs v c
   word_is v c w d e t i o h = let k : d ≡ c = cc in rw k at (as_it_is d (t ∙ sym (same_eq v w e)) i o)
 
-  ref_is : (v : List ℕ) (c : ReferenceClock) → clock_of spelling v ≡ accepted c → RefIs v c
+  ref_is : (v : List ℕ) (c : ReferenceClock) → clock_of spelling v ≡ Ok c → RefIs v c
   unfolding clock_of ref_meaning ref_meaning_text reference_clock_inside in_class
   ref_is v c h =
       by_bool (starts (word "ntp=") v)
@@ -88,28 +88,28 @@ module _ (spelling : Spelling) where
   -- what is told of the text t of a value v that means m
   record Written (v t : List ℕ) (m : RefMeaning) : Type 0 where
     pub short : length t ≤ length v + 2
-    pub back : (reference_clock_of spelling t >>= λ d. accepted (ref_meaning t d)) ≡ read_back m t
+    pub back : (reference_clock_of spelling t >>= λ d. Ok (ref_meaning t d)) ≡ read_back m t
 
   -- a text behind "ntp=" and one behind "ptp="
-  clock_ntp : (x : List ℕ) → clock_of spelling (word "ntp=" ++ x) ≡ (ntp_of 4 x >>= λ w. accepted (clock.Ntp (ntp w)))
+  clock_ntp : (x : List ℕ) → clock_of spelling (word "ntp=" ++ x) ≡ (ntp_of 4 x >>= λ w. Ok (clock.Ntp (ntp w)))
   unfolding clock_of same
   clock_ntp x = refl
 
-  clock_ptp : (x : List ℕ) → clock_of spelling (word "ptp=" ++ x) ≡ (ptp_of spelling 4 x >>= λ p. accepted (clock.Ptp p))
+  clock_ptp : (x : List ℕ) → clock_of spelling (word "ptp=" ++ x) ≡ (ptp_of spelling 4 x >>= λ p. Ok (clock.Ptp p))
   unfolding clock_of same
   clock_ptp x = refl
 
-  ntp_written : (v s : List ℕ) (a : NtpServerAddr) (m : RefMeaning) → word "ntp=" ++ s ≡ v → length v ≤ 1024 → utf8_of v ≡ Well → NtpIs s a m
+  ntp_written : (v s : List ℕ) (a : NtpServerAddr) (m : RefMeaning) → word "ntp=" ++ s ≡ v → length v ≤ 1024 → utf8_of v ≡ (Ok tt) → NtpIs s a m
       → Written v (word "ntp=" ++ ntp_text m) m
   unfolding ref_meaning reference_clock_of read_back
   ntp_written v s a m e l f i =
       let x = ntp_text m in
       let t = word "ntp=" ++ ntp_text m in
       let n : 4 + length s ≡ length v = omega (arith, ap length e) in
-      let w : utf8_of (word "ntp=" ++ ntp_text m) ≡ Well =
+      let w : utf8_of (word "ntp=" ++ ntp_text m) ≡ (Ok tt) =
       utf8_append (word "ntp=") x (utf8_all_ascii (word "ntp=") refl) (ntp_form i (utf8_cut (word "ntp") 61 s (omega arith) (rw (← e) at f)).1) in
-      let b : (clock_of spelling (word "ntp=" ++ ntp_text m) >>= λ d. accepted (ref_meaning (word "ntp=" ++ ntp_text m) d))
-      ≡ cond (in_class m) (refuse 4 4 (length x)) (accepted m) =
+      let b : (clock_of spelling (word "ntp=" ++ ntp_text m) >>= λ d. Ok (ref_meaning (word "ntp=" ++ ntp_text m) d))
+      ≡ cond (in_class m) (refuse 4 4 (length x)) (Ok m) =
       rw (clock_ntp x) (made_twice (ntp_of 4 x) (λ u. clock.Ntp (ntp u)) (ref_meaning t) ∙ ntp_back i t refl) in
       record {
         short = omega (arith, ntp_short i);
@@ -122,15 +122,15 @@ module _ (spelling : Spelling) where
             (λ k. rw (k, guarded_well t (clock_of spelling t) (omega (arith, ntp_fits i (omega arith) k)) w) (rw k at b));
       }
 
-  ptp_written : Lawful spelling → (v : List ℕ) (p : Ptp) → starts (word "ptp=") v ≡ true → ptp_of spelling 4 (drop 4 v) ≡ accepted p
-      → length v ≤ 1024 → utf8_of v ≡ Well → Written v (ref_meaning_text spelling (ref_meaning v (clock.Ptp p))) (ref_meaning v (clock.Ptp p))
+  ptp_written : Lawful spelling → (v : List ℕ) (p : Ptp) → starts (word "ptp=") v ≡ true → ptp_of spelling 4 (drop 4 v) ≡ Ok p
+      → length v ≤ 1024 → utf8_of v ≡ (Ok tt) → Written v (ref_meaning_text spelling (ref_meaning v (clock.Ptp p))) (ref_meaning v (clock.Ptp p))
   unfolding ref_meaning ref_meaning_text reference_clock_of read_back in_class
   ptp_written lawful v p e k l f =
       let told = ptp_told spelling lawful v 4 (drop 4 v) p refl k in
       let x = version_text (version_means v p.version) ++ 58 ∷ server_text spelling (server_means v p.server) in
       let t = word "ptp=" ++ x in
       let n = starts_length (word "ptp=") v e in
-      let s : utf8_of (drop 4 v) ≡ Well = (utf8_cut (word "ptp") 61 (drop 4 v) (omega arith) (rw (← starts_cut (word "ptp=") v e) at f)).1 in
+      let s : utf8_of (drop 4 v) ≡ (Ok tt) = (utf8_cut (word "ptp") 61 (drop 4 v) (omega arith) (rw (← starts_cut (word "ptp=") v e) at f)).1 in
       let w = utf8_append (word "ptp=") x (utf8_all_ascii (word "ptp=") refl) (told.form s) in
       record {
         short = omega (arith, told.short);
@@ -141,12 +141,12 @@ module _ (spelling : Spelling) where
 
   -- what is written as it was read
   same_written : (v : List ℕ) (c : ReferenceClock) → ref_meaning_text spelling (ref_meaning v c) ≡ v → in_class (ref_meaning v c) ≡ false
-      → reference_clock_of spelling v ≡ accepted c → Written v (ref_meaning_text spelling (ref_meaning v c)) (ref_meaning v c)
+      → reference_clock_of spelling v ≡ Ok c → Written v (ref_meaning_text spelling (ref_meaning v c)) (ref_meaning v c)
   unfolding read_back
   same_written v c e o h = rw e (record { short = omega arith; back = rw (h, o) })
 
-  written : Lawful spelling → (v : List ℕ) (c : ReferenceClock) → reference_clock_of spelling v ≡ accepted c → length v ≤ 1024
-      → utf8_of v ≡ Well → RefIs v c → Written v (ref_meaning_text spelling (ref_meaning v c)) (ref_meaning v c)
+  written : Lawful spelling → (v : List ℕ) (c : ReferenceClock) → reference_clock_of spelling v ≡ Ok c → length v ≤ 1024
+      → utf8_of v ≡ (Ok tt) → RefIs v c → Written v (ref_meaning_text spelling (ref_meaning v c)) (ref_meaning v c)
   unfolding ref_meaning
   written lawful v c h l f (is_ntp a e k) =
       rw (ntp_text_lem spelling v a) (ntp_written v (drop 4 v) a (ntp_means v a) (starts_cut (word "ntp=") v e) l f (ntp_is v (drop 4 v) a refl k))
@@ -167,7 +167,7 @@ module _ (spelling : Spelling) where
     class_same c d (as_it_is g t i o) r x y q = clash (cc)
 
   module _ (lawful : Lawful spelling) where
-    module _ (v : List ℕ) (c : ReferenceClock) (h : reference_clock_of spelling v ≡ accepted c) where
+    module _ (v : List ℕ) (c : ReferenceClock) (h : reference_clock_of spelling v ≡ Ok c) where
       value : Accepted v (clock_of spelling v) c
       unfolding reference_clock_of
       value = was_accepted v (clock_of spelling v) c h
@@ -185,15 +185,15 @@ module _ (spelling : Spelling) where
       ref_short = text.short
 
       pub ref_back : let t = ref_meaning_text spelling (ref_meaning v c) in
-          (reference_clock_of spelling t >>= λ d. accepted (ref_meaning t d)) ≡ read_back (ref_meaning v c) t
+          (reference_clock_of spelling t >>= λ d. Ok (ref_meaning t d)) ≡ read_back (ref_meaning v c) t
       ref_back = text.back
 
-    pub ref_texts : (v w : List ℕ) (c d : ReferenceClock) → reference_clock_of spelling v ≡ accepted c → reference_clock_of spelling w ≡ accepted d
+    pub ref_texts : (v w : List ℕ) (c d : ReferenceClock) → reference_clock_of spelling v ≡ Ok c → reference_clock_of spelling w ≡ Ok d
         → ref_meaning_text spelling (ref_meaning v c) ≡ ref_meaning_text spelling (ref_meaning w d) → ref_meaning v c ≡ ref_meaning w d
     unfolding read_back
     ref_texts v w c d h k e =
         let s : read_back (ref_meaning v c) (ref_meaning_text spelling (ref_meaning v c)) ≡ read_back (ref_meaning w d) (ref_meaning_text spelling (ref_meaning w d)) =
-        sym (ref_back v c h) ∙ ap (λ (t : List ℕ). reference_clock_of spelling t >>= λ d. accepted (ref_meaning t d)) e ∙ ref_back w d k in
+        sym (ref_back v c h) ∙ ap (λ (t : List ℕ). reference_clock_of spelling t >>= λ d. Ok (ref_meaning t d)) e ∙ ref_back w d k in
         by_bool (in_class (ref_meaning v c))
         (λ x. by_bool (in_class (ref_meaning w d))
         (λ y. class_same v w c d (ref_is v c (value v c h).is) (ref_is w d (value w d k).is) x y e)

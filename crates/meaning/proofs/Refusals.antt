@@ -1,9 +1,9 @@
 -- The rows of the refusals hold: the first two by the guard, and of the others, which are short and of bytes below 128, the rules are computed.
 -- Assumes nothing.
+use Rattle.std.specs.Prelude.{Option}
 use mathlib.Core.Path.{◌≡◌, refl, sym}
 use mathlib.Core.List.{◌++◌}
 use mathlib.Core.Bool.{true, false}
-use mathlib.Core.Option.{Option}
 use native.Mathlib.Omega.{arith}
 use lib.ListN.{length, take, drop, replicate}
 use borrow.Author.Tests.{ltb-true}
@@ -22,17 +22,17 @@ use Rattle.clock.specs.declared.Refusal.{Refusal}
 use Rattle.meaning.specs.Answer.{extension_of, guarded}
 use Rattle.meaning.specs.Domain.{bare, bare_read}
 use Rattle.meaning.specs.ReferenceClock.{port_of, bracket_of, host_of, ntp_of, version_of, gmid_of, domain_of, server_of, ptp_of, clock_of}
-use Rattle.meaning.specs.ReferenceClock.{reference_clock_of, as_reference_clock_read, read_reference_clock}
+use Rattle.meaning.specs.ReferenceClock.{reference_clock_of, read_reference_clock}
 use Rattle.meaning.specs.MediaClock.{denominator_of, ratio_of, rate_of, offset_of, direct_of, stream_of, media_clock_of, tag_of, id_of, tagged_of}
-use Rattle.meaning.specs.MediaClock.{source_of, as_media_clock_source_read}
+use Rattle.meaning.specs.MediaClock.{source_of}
 use Rattle.meaning.specs.Rows.{Given, ts-refclk, mediaclk}
 use Rattle.meaning.specs.Refusals.{ref_reason, source_reason, reason, refusals}
 use Rattle.meaning.proofs.Told.{guarded_long}
 use Rattle.meaning.proofs.Rows.{plain, ref_plain, media_plain, each_append, each_where}
 
 abbrev reason_plain : Given → Option Refusal
-reason_plain (ts-refclk v) = ref_reason (as_reference_clock_read (clock_of bare v))
-reason_plain (mediaclk v) = source_reason (as_media_clock_source_read (source_of v))
+reason_plain (ts-refclk v) = ref_reason (clock_of bare v)
+reason_plain (mediaclk v) = source_reason (source_of v)
 
 reason_plain_lem : (g : Given) → plain g ≡ true → reason g ≡ reason_plain g
 reason_plain_lem (ts-refclk v) h = rw (ref_plain v h)

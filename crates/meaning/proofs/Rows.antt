@@ -1,5 +1,6 @@
 -- The rows hold. They are of bytes below 128 and short, so that length and form are settled by a law and only the rules are computed.
 -- Assumes nothing.
+use Rattle.std.specs.Prelude.{Ok}
 use Prim.Native.Nat.{ℕ, ◌≤◌}
 use mathlib.Core.Path.{◌≡◌, refl, ◌∙◌}
 use mathlib.Core.List.{List, [], ◌∷◌, ◌++◌, map, map-append}
@@ -18,15 +19,14 @@ use Rattle.number.specs.Decimal.{all_digits, value_from, digits_of, number_of, d
 use Rattle.number.specs.Hex.{hex_digit, hex_capital}
 use Rattle.eui64.specs.Eui64.{cut_at_each, high_digit, segment_of, segments_of, eui64_of, segments_text, eui64_text}
 use Rattle.utf8.specs.Utf8.{utf8_of}
-use Rattle.utf8.specs.declared.Utf8.TheVariants.{Well}
 use Rattle.utf8.proofs.Text.{utf8_all_ascii}
 use Rattle.ipaddr.specs.Address.{hexdig, dec_octet, ipv4address, h16, h16colon, double_colon, ls32, ipv6address, ip_address}
 use Rattle.meaning.specs.Answer.{extension_of}
 use Rattle.meaning.specs.Domain.{bare, bare_read, bare_text}
 use Rattle.meaning.specs.ReferenceClock.{port_of, address_of, bracket_of, host_of, ntp_of, version_of, gmid_of, domain_of, server_of, ptp_of, clock_of}
-use Rattle.meaning.specs.ReferenceClock.{reference_clock_of, as_reference_clock_read, read_reference_clock}
+use Rattle.meaning.specs.ReferenceClock.{reference_clock_of, read_reference_clock}
 use Rattle.meaning.specs.MediaClock.{denominator_of, ratio_of, rate_of, offset_of, direct_of, stream_of, media_clock_of, tag_of, id_of, tagged_of}
-use Rattle.meaning.specs.MediaClock.{source_of, media_clock_source_of, as_media_clock_source_read, read_media_clock_source}
+use Rattle.meaning.specs.MediaClock.{source_of, media_clock_source_of, read_media_clock_source}
 use Rattle.meaning.specs.Meaning.{ref_meaning, media_meaning}
 use Rattle.meaning.specs.Text.{ref_meaning_text, reference_clock_text, source_meaning_text, media_clock_source_text}
 use Rattle.meaning.proofs.Told.{guarded_well}
@@ -40,21 +40,21 @@ plain (ts-refclk v) = short v
 plain (mediaclk v) = short v
 
 abbrev plainly : Given → ReadAndWritten
-plainly (ts-refclk v) = ref_written v (as_reference_clock_read (clock_of bare v))
-plainly (mediaclk v) = source_written v (as_media_clock_source_read (source_of v))
+plainly (ts-refclk v) = ref_written v (clock_of bare v)
+plainly (mediaclk v) = source_written v (source_of v)
 
 module _ (v : List ℕ) (h : short v ≡ true) where
   fits : length v ≤ 1024
   fits = leb-true (length v) 1024 (and_left (leb (length v) 1024) (ascii v) h)
 
-  form : utf8_of v ≡ Well
+  form : utf8_of v ≡ (Ok tt)
   form = utf8_all_ascii v (and_right (leb (length v) 1024) (ascii v) h)
 
-  pub ref_plain : read_reference_clock v ≡ as_reference_clock_read (clock_of bare v)
+  pub ref_plain : read_reference_clock v ≡ clock_of bare v
   unfolding read_reference_clock reference_clock_of
   ref_plain = rw (guarded_well v (clock_of bare v) fits form)
 
-  pub media_plain : read_media_clock_source v ≡ as_media_clock_source_read (source_of v)
+  pub media_plain : read_media_clock_source v ≡ source_of v
   unfolding read_media_clock_source media_clock_source_of
   media_plain = rw (guarded_well v (source_of v) fits form)
 

@@ -1,12 +1,6 @@
 -- Whether every place of a record lies inside the value that it points into.
-use Rattle.std.specs.Prelude.{ℕ, ◌+◌, List, Bool, true, ◌&&◌, leb, length}
+use Rattle.std.specs.Prelude.{ℕ, ◌+◌, List, Bool, true, ◌&&◌, leb, length, Option, Some, None}
 use Rattle.text.specs.declared.Place.{Place}
-use Rattle.clock.specs.declared.OptDomain.{OptDomain}
-use Rattle.clock.specs.declared.OptDomain.TheVariants.{NoDomain, SomeDomain}
-use Rattle.clock.specs.declared.OptValue.{OptValue}
-use Rattle.clock.specs.declared.OptValue.TheVariants.{NoValue, SomeValue}
-use Rattle.mediarecord.specs.declared.OptId.{OptId}
-use Rattle.mediarecord.specs.declared.OptId.TheVariants.{NoId, SomeId}
 use Rattle.clock.specs.declared.NtpServerAddr.{NtpServerAddr}
 use Rattle.clock.specs.declared.NtpServerAddr.TheVariants as server
 use Rattle.clock.specs.declared.PtpVersion.{PtpVersion}
@@ -20,6 +14,7 @@ use Rattle.clock.specs.declared.ReferenceClock.TheVariants as clock
 use Rattle.mediarecord.specs.declared.MediaClock.{MediaClock}
 use Rattle.mediarecord.specs.declared.MediaClock.TheVariants as media
 use Rattle.mediarecord.specs.declared.MediaClockSource.{MediaClockSource}
+use Rattle.mediarecord.specs.declared.MediaClockId.{MediaClockId}
 
 module _ (v : List ℕ) where
   abbrev pub inside : Place → Bool
@@ -35,9 +30,9 @@ module _ (v : List ℕ) where
   domain_inside (DomainName p) = inside p
   domain_inside (DomainNumber n) = true
 
-  abbrev pub opt_domain_inside : OptDomain → Bool
-  opt_domain_inside NoDomain = true
-  opt_domain_inside (SomeDomain d) = domain_inside d
+  abbrev pub opt_domain_inside : Option PtpDomain → Bool
+  opt_domain_inside None = true
+  opt_domain_inside (Some d) = domain_inside d
 
   abbrev pub server_inside : PtpServer → Bool
   server_inside (source.GmidDomain g d) = opt_domain_inside d
@@ -47,9 +42,9 @@ module _ (v : List ℕ) where
   ntp_inside (server.HostPort p port) = inside p
   ntp_inside server.Traceable = true
 
-  abbrev pub value_inside : OptValue → Bool
-  value_inside NoValue = true
-  value_inside (SomeValue p) = inside p
+  abbrev pub value_inside : Option Place → Bool
+  value_inside None = true
+  value_inside (Some p) = inside p
 
   unfoldable pub reference_clock_inside : ReferenceClock → Bool
   reference_clock_inside (clock.Ntp n) = ntp_inside n.server
@@ -61,9 +56,9 @@ module _ (v : List ℕ) where
   reference_clock_inside (clock.Private p) = true
   reference_clock_inside (clock.Ext e) = inside e.name && value_inside e.value
 
-  abbrev pub id_inside : OptId → Bool
-  id_inside NoId = true
-  id_inside (SomeId d) = inside d.tag
+  abbrev pub id_inside : Option MediaClockId → Bool
+  id_inside None = true
+  id_inside (Some d) = inside d.tag
 
   abbrev pub media_inside : MediaClock → Bool
   media_inside media.Sender = true

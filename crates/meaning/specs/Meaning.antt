@@ -1,20 +1,7 @@
 -- What a record means over the value that it points into: each place is replaced by the bytes there. Two records are equal exactly when they
 -- mean the same: kinds and numbers are equal, and the bytes at matching places are; absent differs from present and empty.
-use Rattle.std.specs.Prelude.{ℕ, List, cond}
-use Rattle.std.proofs.Math.Option.{Option, none, some}
+use Rattle.std.specs.Prelude.{ℕ, List, cond, Option, Some, None}
 use Rattle.text.specs.Place.{bytes_at}
-use Rattle.clock.specs.declared.OptPort.{OptPort}
-use Rattle.clock.specs.declared.OptPort.TheVariants.{NoPort, SomePort}
-use Rattle.clock.specs.declared.OptDomain.{OptDomain}
-use Rattle.clock.specs.declared.OptDomain.TheVariants.{NoDomain, SomeDomain}
-use Rattle.clock.specs.declared.OptValue.{OptValue}
-use Rattle.clock.specs.declared.OptValue.TheVariants.{NoValue, SomeValue}
-use Rattle.mediarecord.specs.declared.OptId.{OptId}
-use Rattle.mediarecord.specs.declared.OptId.TheVariants.{NoId, SomeId}
-use Rattle.mediarecord.specs.declared.OptOffset.{OptOffset}
-use Rattle.mediarecord.specs.declared.OptOffset.TheVariants.{NoOffset, SomeOffset}
-use Rattle.mediarecord.specs.declared.OptRate.{OptRate}
-use Rattle.mediarecord.specs.declared.OptRate.TheVariants.{NoRate, SomeRate}
 use Rattle.clock.specs.declared.NtpServerAddr.{NtpServerAddr}
 use Rattle.clock.specs.declared.NtpServerAddr.TheVariants as server
 use Rattle.clock.specs.declared.PtpVersion.{PtpVersion}
@@ -30,6 +17,9 @@ use Rattle.clock.specs.declared.ReferenceClock.TheVariants as clock
 use Rattle.mediarecord.specs.declared.MediaClock.{MediaClock}
 use Rattle.mediarecord.specs.declared.MediaClock.TheVariants as media
 use Rattle.mediarecord.specs.declared.MediaClockSource.{MediaClockSource}
+use Rattle.mediarecord.specs.declared.MediaClockId.{MediaClockId}
+use Rattle.text.specs.declared.Place.{Place}
+use Rattle.mediarecord.specs.declared.Rate.{Rate}
 
 -- ts-refclk
 pub data Version : Type 0 where
@@ -63,25 +53,25 @@ module _ (v : List ℕ) where
   domain_means (DomainName p) = name (bytes_at p v)
   domain_means (DomainNumber n) = number n
 
-  abbrev pub opt_domain_means : OptDomain → Option Domain
-  opt_domain_means NoDomain = none
-  opt_domain_means (SomeDomain d) = some (domain_means d)
+  abbrev pub opt_domain_means : Option PtpDomain → Option Domain
+  opt_domain_means None = None
+  opt_domain_means (Some d) = Some (domain_means d)
 
   abbrev pub server_means : PtpServer → Server
   server_means (source.GmidDomain g d) = gmid g.id (opt_domain_means d)
   server_means source.Traceable = traceable
 
-  abbrev pub port_means : OptPort → Option ℕ
-  port_means NoPort = none
-  port_means (SomePort n) = some n
+  abbrev pub port_means : Option ℕ → Option ℕ
+  port_means None = None
+  port_means (Some n) = Some n
 
   abbrev pub ntp_means : NtpServerAddr → RefMeaning
   ntp_means (server.HostPort p port) = ntp_host (bytes_at p v) (port_means port)
   ntp_means server.Traceable = ntp_traceable
 
-  abbrev pub value_means : OptValue → Option (List ℕ)
-  value_means NoValue = none
-  value_means (SomeValue p) = some (bytes_at p v)
+  abbrev pub value_means : Option Place → Option (List ℕ)
+  value_means None = None
+  value_means (Some p) = Some (bytes_at p v)
 
   abbrev pub private_means : PrivateSource → RefMeaning
   private_means private.Standard = private_standard
@@ -114,18 +104,18 @@ pub data MediaMeaning : Type 0 where
 pub data SourceMeaning : Type 0 where
   media_source : Option Tag → MediaMeaning → SourceMeaning
 
-abbrev pub offset_means : OptOffset → Option ℕ
-offset_means NoOffset = none
-offset_means (SomeOffset n) = some n
+abbrev pub offset_means : Option ℕ → Option ℕ
+offset_means None = None
+offset_means (Some n) = Some n
 
-abbrev pub rate_means : OptRate → Option Ratio
-rate_means NoRate = none
-rate_means (SomeRate r) = some (ratio r.numerator r.denominator)
+abbrev pub rate_means : Option Rate → Option Ratio
+rate_means None = None
+rate_means (Some r) = Some (ratio r.numerator r.denominator)
 
 module _ (v : List ℕ) where
-  abbrev pub id_means : OptId → Option Tag
-  id_means NoId = none
-  id_means (SomeId d) = some (cond d.src (src_tag (bytes_at d.tag v)) (plain_tag (bytes_at d.tag v)))
+  abbrev pub id_means : Option MediaClockId → Option Tag
+  id_means None = None
+  id_means (Some d) = Some (cond d.src (src_tag (bytes_at d.tag v)) (plain_tag (bytes_at d.tag v)))
 
   abbrev pub media_means : MediaClock → MediaMeaning
   media_means media.Sender = sender

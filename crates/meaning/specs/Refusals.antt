@@ -1,27 +1,24 @@
 -- A value for each number that reading refuses with, and the place that it gives: the rows of docs/REFUSALS.md, in their order. Values of either
 -- attribute are those behind `a=ts-refclk:` and `a=mediaclk:`. `proofs/Refusals.antt` proves them.
-use Rattle.std.specs.Prelude.{ℕ, List, [], ◌∷◌, ◌++◌, replicate}
-use Rattle.std.proofs.Math.Option.{Option, none, some}
+use Rattle.std.specs.Prelude.{ℕ, List, [], ◌∷◌, ◌++◌, replicate, Result, Ok, Err, Option, Some, None}
 use Rattle.text.specs.Word.{word}
 use Rattle.text.specs.Example.{Example, ◌gives◌}
 use Rattle.clock.specs.Refusal.{refusal}
 use Rattle.clock.specs.declared.Refusal.{Refusal}
-use Rattle.clock.specs.declared.ReferenceClockRead.{ReferenceClockRead}
-use Rattle.clock.specs.declared.ReferenceClockRead.TheVariants as ref
-use Rattle.mediarecord.specs.declared.MediaClockSourceRead.{MediaClockSourceRead}
-use Rattle.mediarecord.specs.declared.MediaClockSourceRead.TheVariants as src
 use Rattle.meaning.specs.ReferenceClock.{read_reference_clock}
 use Rattle.meaning.specs.MediaClock.{read_media_clock_source}
 use Rattle.meaning.specs.Rows.{Given, ts-refclk, mediaclk}
+use Rattle.clock.specs.declared.ReferenceClock.{ReferenceClock}
+use Rattle.mediarecord.specs.declared.MediaClockSource.{MediaClockSource}
 
 -- the refusal of an answer: none where the value was accepted
-abbrev pub ref_reason : ReferenceClockRead → Option Refusal
-ref_reason (ref.Accepted c) = none
-ref_reason (ref.Refused r) = some r
+abbrev pub ref_reason : Result ReferenceClock Refusal → Option Refusal
+ref_reason (Ok c) = None
+ref_reason (Err r) = Some r
 
-abbrev pub source_reason : MediaClockSourceRead → Option Refusal
-source_reason (src.Accepted m) = none
-source_reason (src.Refused r) = some r
+abbrev pub source_reason : Result MediaClockSource Refusal → Option Refusal
+source_reason (Ok m) = None
+source_reason (Err r) = Some r
 
 abbrev pub reason : Given → Option Refusal
 reason (ts-refclk v) = ref_reason (read_reference_clock v)
@@ -29,7 +26,7 @@ reason (mediaclk v) = source_reason (read_media_clock_source v)
 
 -- refused with the number k, at the n bytes from `at` on
 abbrev no : ℕ → ℕ → ℕ → Option Refusal
-no k at n = some (refusal k at n)
+no k at n = Some (refusal k at n)
 
 -- the first value is "ntp=" and 1,021 times "x"
 abbrev pub refusals : List (Example Given (Option Refusal))

@@ -1,6 +1,5 @@
 -- The text of a meaning: numbers plain, EUI-64 in capitals with two digits a segment, a host with a colon and a port in brackets.
-use Rattle.std.specs.Prelude.{ℕ, List, [], ◌∷◌, ◌++◌, Bool, false, cond, ◌&&◌, not, ltb, length}
-use Rattle.std.proofs.Math.Option.{Option, none, some}
+use Rattle.std.specs.Prelude.{ℕ, List, [], ◌∷◌, ◌++◌, Bool, false, cond, ◌&&◌, not, ltb, length, Option, Some, None}
 use Rattle.text.specs.Find.{before}
 use Rattle.text.specs.Word.{word}
 use Rattle.number.specs.Decimal.{decimal}
@@ -16,8 +15,8 @@ use Rattle.meaning.specs.Meaning.{SourceMeaning, media_source, media_meaning}
 
 -- "=" and a value, where there is one
 abbrev pub value_text : Option (List ℕ) → List ℕ
-value_text none = []
-value_text (some x) = 61 ∷ x
+value_text None = []
+value_text (Some x) = 61 ∷ x
 
 abbrev pub version_text : Version → List ℕ
 version_text ieee1588_2002 = word "IEEE1588-2002"
@@ -30,13 +29,13 @@ has_colon h = ltb (before 58 h) (length h)
 
 -- a host with a colon stands in brackets before a port
 abbrev pub host_text : List ℕ → Option ℕ → List ℕ
-host_text h none = h
-host_text h (some n) = cond (has_colon h) (91 ∷ (h ++ 93 ∷ 58 ∷ decimal n)) (h ++ 58 ∷ decimal n)
+host_text h None = h
+host_text h (Some n) = cond (has_colon h) (91 ∷ (h ++ 93 ∷ 58 ∷ decimal n)) (h ++ 58 ∷ decimal n)
 
 module _ (spelling : Spelling) where
   abbrev pub domain_text : Option Domain → List ℕ
-  domain_text none = []
-  domain_text (some d) = 58 ∷ spelling.text d
+  domain_text None = []
+  domain_text (Some d) = 58 ∷ spelling.text d
 
   abbrev pub server_text : Server → List ℕ
   server_text (gmid g d) = eui64_text g ++ domain_text d
@@ -64,16 +63,16 @@ tag_text (plain_tag x) = x
 tag_text (src_tag x) = word "src:" ++ x
 
 abbrev pub id_text : Option Tag → List ℕ
-id_text none = []
-id_text (some t) = word "id=" ++ (tag_text t ++ 32 ∷ [])
+id_text None = []
+id_text (Some t) = word "id=" ++ (tag_text t ++ 32 ∷ [])
 
 abbrev pub offset_text : Option ℕ → List ℕ
-offset_text none = []
-offset_text (some n) = 61 ∷ decimal n
+offset_text None = []
+offset_text (Some n) = 61 ∷ decimal n
 
 abbrev pub rate_text : Option Ratio → List ℕ
-rate_text none = []
-rate_text (some (ratio n d)) = word " rate=" ++ (decimal n ++ 47 ∷ decimal d)
+rate_text None = []
+rate_text (Some (ratio n d)) = word " rate=" ++ (decimal n ++ 47 ∷ decimal d)
 
 abbrev pub media_text : MediaMeaning → List ℕ
 media_text sender = word "sender"
@@ -89,8 +88,8 @@ media_clock_source_text v m = source_meaning_text (media_meaning v m)
 
 -- the one class whose written text is refused: an NTP host that holds a colon, is no IP address and has a port
 unfoldable pub in_class : RefMeaning → Bool
-in_class (ntp_host h (some n)) = has_colon h && not (ip_address h)
-in_class (ntp_host h none) = false
+in_class (ntp_host h (Some n)) = has_colon h && not (ip_address h)
+in_class (ntp_host h None) = false
 in_class ntp_traceable = false
 in_class (ptp v s) = false
 in_class gps = false

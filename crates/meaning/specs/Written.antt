@@ -1,9 +1,6 @@
 -- What writing answers, and what it leaves in the room: the text, then the bytes that stood behind it; on a refusal every byte as it was.
-use Rattle.std.specs.Prelude.{ℕ, ◌-◌, List, [], ◌++◌, Bool, cond, not, ltb, length, take, drop}
-use Rattle.std.proofs.Math.Option.{Option, none, some}
+use Rattle.std.specs.Prelude.{ℕ, ◌-◌, List, [], ◌++◌, Bool, cond, not, ltb, length, take, drop, Result, Ok, Err, Option, Some, None}
 use Rattle.clock.specs.Refusal.{refusal}
-use Rattle.clock.specs.declared.Wrote.{Wrote}
-use Rattle.clock.specs.declared.Wrote.TheVariants as wrote
 use Rattle.clock.specs.declared.WriteRefusal.{WriteRefusal}
 use Rattle.clock.specs.declared.WriteRefusal.TheVariants as refused
 use Rattle.clock.specs.declared.ReferenceClock.{ReferenceClock}
@@ -19,33 +16,33 @@ refusal_number refused.Outside = 23
 refusal_number (refused.Room n) = 24
 
 -- the number of an answer: none where the text was written
-abbrev pub wrote_number : Wrote → Option ℕ
-wrote_number (wrote.Length n) = none
-wrote_number (wrote.Refused r) = some (refusal_number r)
+abbrev pub wrote_number : Result ℕ WriteRefusal → Option ℕ
+wrote_number (Ok n) = None
+wrote_number (Err r) = Some (refusal_number r)
 
 -- writing the text t of a record over the value v into a room of n bytes: a value over 1,024 bytes is refused, then a place that reaches
 -- outside the value, then a room that is too short
-unfoldable pub wrote_of : List ℕ → Bool → List ℕ → ℕ → Wrote
+unfoldable pub wrote_of : List ℕ → Bool → List ℕ → ℕ → Result ℕ WriteRefusal
 wrote_of v inside t n =
-    cond (ltb most_bytes (length v)) (wrote.Refused (refused.Value (refusal 1 most_bytes (length v - most_bytes))))
-    (cond (not inside) (wrote.Refused refused.Outside)
-    (cond (ltb n (length t)) (wrote.Refused (refused.Room (length t)))
-    (wrote.Length (length t))))
+    cond (ltb most_bytes (length v)) (Err (refused.Value (refusal 1 most_bytes (length v - most_bytes))))
+    (cond (not inside) (Err refused.Outside)
+    (cond (ltb n (length t)) (Err (refused.Room (length t)))
+    (Ok (length t))))
 
 -- the room afterwards
-unfoldable pub room_after : Wrote → List ℕ → List ℕ → List ℕ
-room_after (wrote.Length n) t room = t ++ drop n room
-room_after (wrote.Refused r) t room = room
+unfoldable pub room_after : Result ℕ WriteRefusal → List ℕ → List ℕ → List ℕ
+room_after (Ok n) t room = t ++ drop n room
+room_after (Err r) t room = room
 
 -- the bytes that an answer says were written
-unfoldable pub front : Wrote → List ℕ → List ℕ
-front (wrote.Length n) room = take n room
-front (wrote.Refused r) room = []
+unfoldable pub front : Result ℕ WriteRefusal → List ℕ → List ℕ
+front (Ok n) room = take n room
+front (Err r) room = []
 
-abbrev pub wrote_reference_clock : List ℕ → ReferenceClock → ℕ → Wrote
+abbrev pub wrote_reference_clock : List ℕ → ReferenceClock → ℕ → Result ℕ WriteRefusal
 wrote_reference_clock v c n = wrote_of v (reference_clock_inside v c) (reference_clock_text v c) n
 
-abbrev pub wrote_media_clock_source : List ℕ → MediaClockSource → ℕ → Wrote
+abbrev pub wrote_media_clock_source : List ℕ → MediaClockSource → ℕ → Result ℕ WriteRefusal
 wrote_media_clock_source v m n = wrote_of v (media_clock_source_inside v m) (media_clock_source_text v m) n
 
 -- what stands written in the room

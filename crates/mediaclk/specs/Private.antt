@@ -1,2 +1,2 @@
 -- What only private functions and proofs need: it need not be believed.
-pub mod AsAnswer
+pub mod Front

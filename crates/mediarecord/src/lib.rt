@@ -1,18 +1,20 @@
 // The records of mediaclk, under the names of the Rust module clock_signalling, and their constructors and setters in its order. A place stands for
-// each text, and a case of its own for what may be absent. A `From` there is a function here, named by what it takes.
+// each text.
 #![tactic(auto)]
 
-ghost use Rattle.std.specs.Prelude.{◌≡◌, true, false, ◌&&◌, eqb};
+ghost use Rattle.std.specs.Prelude.{◌≡◌, true, false, ◌&&◌, eqb, None};
 ghost use Rattle.mediarecord.specs.Records.{media_clock_source, media_clock_id, rate, direct, media_clock_ext};
 ghost use Rattle.mediarecord.specs.Setters.{with_id, with_src, with_offset, with_rate, with_media_value};
+ghost use Rattle.mediarecord.specs.declared.MediaClock.{MediaClock};
+ghost use Rattle.mediarecord.specs.declared.MediaClock.TheVariants as clock;
 
-use clock::{Eui64, OptValue, Refusal};
+use clock::{Eui64, Refusal};
 use text::Place;
 
 // What a mediaclk value says.
-#[derive(Clone, Copy)]
+#[derive(Clone, Copy, Default)]
 pub struct MediaClockSource {
-    pub id: OptId,
+    pub id: Option<MediaClockId>,
     pub clock: MediaClock,
 }
 
@@ -31,129 +33,82 @@ pub struct MediaClockId {
     pub tag: Place,
 }
 
-#[derive(Clone, Copy)]
-pub enum OptId {
-    NoId,
-    SomeId(MediaClockId),
-}
-
-#[derive(Clone, Copy)]
+#[derive(Clone, Copy, Default)]
 pub struct Rate {
     pub numerator: u32,
     pub denominator: u32,
 }
 
-#[derive(Clone, Copy)]
-pub enum OptRate {
-    NoRate,
-    SomeRate(Rate),
-}
-
-#[derive(Clone, Copy)]
+#[derive(Clone, Copy, Default)]
 pub struct Direct {
-    pub offset: OptOffset,
-    pub rate: OptRate,
-}
-
-#[derive(Clone, Copy)]
-pub enum OptOffset {
-    NoOffset,
-    SomeOffset(u32),
+    pub offset: Option<u32>,
+    pub rate: Option<Rate>,
 }
 
 #[derive(Clone, Copy)]
 pub struct MediaClockExt {
     pub name: Place,
-    pub value: OptValue,
-}
-
-// What reading a mediaclk value answers.
-#[derive(Clone, Copy)]
-pub enum MediaClockSourceRead {
-    Accepted(MediaClockSource),
-    Refused(Refusal),
+    pub value: Option<Place>,
 }
 
 impl MediaClockSource {
-    // The sender, without an id.
-    pub fn default() -> MediaClockSource
-        ensures { result ≡ media_clock_source OptId.NoId MediaClock.Sender }
-    {
-        MediaClockSource::new(MediaClock::Sender)
-    }
-
     // A clock without an id.
     pub fn new(clock: MediaClock) -> MediaClockSource
-        ensures { result ≡ media_clock_source OptId.NoId clock }
+        ensures { result ≡ media_clock_source None clock }
     {
-        MediaClockSource {
-            id: OptId::NoId,
-            clock,
-        }
+        MediaClockSource { id: None, clock }
     }
 
     // A clock with an id.
     pub fn with_clock_id(clock: MediaClock, id: MediaClockId) -> MediaClockSource
-        ensures { result ≡ media_clock_source (OptId.SomeId id) clock }
+        ensures { result ≡ media_clock_source (Some id) clock }
     {
         MediaClockSource {
-            id: OptId::SomeId(id),
+            id: Some(id),
             clock,
         }
     }
 
     // Direct, without an id, an offset or a rate.
     pub fn new_direct() -> MediaClockSource
-        ensures { result ≡ media_clock_source OptId.NoId (MediaClock.Direct (direct OptOffset.NoOffset OptRate.NoRate)) }
+        ensures { result ≡ media_clock_source None (MediaClock.Direct (direct None None)) }
     {
-        MediaClockSource::direct(OptId::NoId, OptOffset::NoOffset, OptRate::NoRate)
+        MediaClockSource::direct(None, None, None)
     }
 
     // Direct with this offset, without a rate or an id.
     pub fn from_direct_offset(offset: u32) -> MediaClockSource
-        ensures { result ≡ media_clock_source OptId.NoId (MediaClock.Direct (direct (OptOffset.SomeOffset offset) OptRate.NoRate)) }
+        ensures { result ≡ media_clock_source None (MediaClock.Direct (direct (Some offset) None)) }
     {
-        MediaClockSource::direct(OptId::NoId, OptOffset::SomeOffset(offset), OptRate::NoRate)
+        MediaClockSource::direct(None, Some(offset), None)
     }
 
     // Direct with this offset and id, without a rate.
     pub fn from_direct_offset_with_id(offset: u32, id: MediaClockId) -> MediaClockSource
-        ensures { result ≡ media_clock_source (OptId.SomeId id) (MediaClock.Direct (direct (OptOffset.SomeOffset offset) OptRate.NoRate)) }
+        ensures { result ≡ media_clock_source (Some id) (MediaClock.Direct (direct (Some offset) None)) }
     {
-        MediaClockSource::direct(
-            OptId::SomeId(id),
-            OptOffset::SomeOffset(offset),
-            OptRate::NoRate,
-        )
+        MediaClockSource::direct(Some(id), Some(offset), None)
     }
 
     // Direct with this rate, without an offset or an id: no offset is not 0.
     pub fn from_direct_rate(rate: Rate) -> MediaClockSource
-        ensures { result ≡ media_clock_source OptId.NoId (MediaClock.Direct (direct OptOffset.NoOffset (OptRate.SomeRate rate))) }
+        ensures { result ≡ media_clock_source None (MediaClock.Direct (direct None (Some rate))) }
     {
-        MediaClockSource::direct(OptId::NoId, OptOffset::NoOffset, OptRate::SomeRate(rate))
+        MediaClockSource::direct(None, None, Some(rate))
     }
 
     // Direct with this rate and id, without an offset.
     pub fn from_direct_rate_with_id(rate: Rate, id: MediaClockId) -> MediaClockSource
-        ensures { result ≡ media_clock_source (OptId.SomeId id) (MediaClock.Direct (direct OptOffset.NoOffset (OptRate.SomeRate rate))) }
+        ensures { result ≡ media_clock_source (Some id) (MediaClock.Direct (direct None (Some rate))) }
     {
-        MediaClockSource::direct(
-            OptId::SomeId(id),
-            OptOffset::NoOffset,
-            OptRate::SomeRate(rate),
-        )
+        MediaClockSource::direct(Some(id), None, Some(rate))
     }
 
     // Direct with both, without an id.
     pub fn from_direct_offset_and_rate(offset: u32, rate: Rate) -> MediaClockSource
-        ensures { result ≡ media_clock_source OptId.NoId (MediaClock.Direct (direct (OptOffset.SomeOffset offset) (OptRate.SomeRate rate))) }
+        ensures { result ≡ media_clock_source None (MediaClock.Direct (direct (Some offset) (Some rate))) }
     {
-        MediaClockSource::direct(
-            OptId::NoId,
-            OptOffset::SomeOffset(offset),
-            OptRate::SomeRate(rate),
-        )
+        MediaClockSource::direct(None, Some(offset), Some(rate))
     }
 
     // Direct with offset, rate and id.
@@ -162,48 +117,44 @@ impl MediaClockSource {
         rate: Rate,
         id: MediaClockId,
     ) -> MediaClockSource
-        ensures { result ≡ media_clock_source (OptId.SomeId id) (MediaClock.Direct (direct (OptOffset.SomeOffset offset) (OptRate.SomeRate rate))) }
+        ensures { result ≡ media_clock_source (Some id) (MediaClock.Direct (direct (Some offset) (Some rate))) }
     {
-        MediaClockSource::direct(
-            OptId::SomeId(id),
-            OptOffset::SomeOffset(offset),
-            OptRate::SomeRate(rate),
-        )
+        MediaClockSource::direct(Some(id), Some(offset), Some(rate))
     }
 
     // A stream, without an id.
     pub fn from_ieee1722_stream_id(stream: Eui64) -> MediaClockSource
-        ensures { result ≡ media_clock_source OptId.NoId (MediaClock.Ieee1722StreamId stream) }
+        ensures { result ≡ media_clock_source None (MediaClock.Ieee1722StreamId stream) }
     {
-        MediaClockSource::from_media_clock(MediaClock::Ieee1722StreamId(stream))
+        MediaClockSource::new(MediaClock::Ieee1722StreamId(stream))
     }
 
     // A stream with an id.
     pub fn from_ieee1722_stream_id_with_id(stream: Eui64, id: MediaClockId) -> MediaClockSource
-        ensures { result ≡ media_clock_source (OptId.SomeId id) (MediaClock.Ieee1722StreamId stream) }
+        ensures { result ≡ media_clock_source (Some id) (MediaClock.Ieee1722StreamId stream) }
     {
         MediaClockSource::with_clock_id(MediaClock::Ieee1722StreamId(stream), id)
     }
 
     // An extension of this name, without a value or an id.
     pub fn from_extended_name(name: Place) -> MediaClockSource
-        ensures { result ≡ media_clock_source OptId.NoId (MediaClock.Ext (media_clock_ext name OptValue.NoValue)) }
+        ensures { result ≡ media_clock_source None (MediaClock.Ext (media_clock_ext name None)) }
     {
-        MediaClockSource::extended(OptId::NoId, name, OptValue::NoValue)
+        MediaClockSource::extended(None, name, None)
     }
 
     // An extension of this name with an id, without a value.
     pub fn from_extended_name_with_id(name: Place, id: MediaClockId) -> MediaClockSource
-        ensures { result ≡ media_clock_source (OptId.SomeId id) (MediaClock.Ext (media_clock_ext name OptValue.NoValue)) }
+        ensures { result ≡ media_clock_source (Some id) (MediaClock.Ext (media_clock_ext name None)) }
     {
-        MediaClockSource::extended(OptId::SomeId(id), name, OptValue::NoValue)
+        MediaClockSource::extended(Some(id), name, None)
     }
 
     // An extension of this name and value, without an id.
     pub fn from_extended_name_with_value(name: Place, value: Place) -> MediaClockSource
-        ensures { result ≡ media_clock_source OptId.NoId (MediaClock.Ext (media_clock_ext name (OptValue.SomeValue value))) }
+        ensures { result ≡ media_clock_source None (MediaClock.Ext (media_clock_ext name (Some value))) }
     {
-        MediaClockSource::extended(OptId::NoId, name, OptValue::SomeValue(value))
+        MediaClockSource::extended(None, name, Some(value))
     }
 
     // An extension of this name and value with an id.
@@ -212,9 +163,9 @@ impl MediaClockSource {
         value: Place,
         id: MediaClockId,
     ) -> MediaClockSource
-        ensures { result ≡ media_clock_source (OptId.SomeId id) (MediaClock.Ext (media_clock_ext name (OptValue.SomeValue value))) }
+        ensures { result ≡ media_clock_source (Some id) (MediaClock.Ext (media_clock_ext name (Some value))) }
     {
-        MediaClockSource::extended(OptId::SomeId(id), name, OptValue::SomeValue(value))
+        MediaClockSource::extended(Some(id), name, Some(value))
     }
 
     pub fn set_id(self, id: MediaClockId) -> MediaClockSource
@@ -224,14 +175,8 @@ impl MediaClockSource {
         MediaClockSource::with_clock_id(clock, id)
     }
 
-    pub fn from_media_clock(clock: MediaClock) -> MediaClockSource
-        ensures { result ≡ media_clock_source OptId.NoId clock }
-    {
-        MediaClockSource::new(clock)
-    }
-
     // What the constructors of a direct clock share, and below it those of an extension.
-    fn direct(id: OptId, offset: OptOffset, rate: OptRate) -> MediaClockSource
+    fn direct(id: Option<MediaClockId>, offset: Option<u32>, rate: Option<Rate>) -> MediaClockSource
         ensures { result ≡ media_clock_source id (MediaClock.Direct (direct offset rate)) }
     {
         MediaClockSource {
@@ -240,7 +185,7 @@ impl MediaClockSource {
         }
     }
 
-    fn extended(id: OptId, name: Place, value: OptValue) -> MediaClockSource
+    fn extended(id: Option<MediaClockId>, name: Place, value: Option<Place>) -> MediaClockSource
         ensures { result ≡ media_clock_source id (MediaClock.Ext (media_clock_ext name value)) }
     {
         MediaClockSource {
@@ -250,38 +195,39 @@ impl MediaClockSource {
     }
 }
 
-impl MediaClock {
-    // The sender.
-    pub fn default() -> MediaClock
-        ensures { result ≡ MediaClock.Sender }
-    {
-        MediaClock::Sender
-    }
+impl<T: Into<MediaClock>> From<T> for MediaClockSource {
+    ghost from_gives = { λ x s. (c : MediaClock) × T.converts x c × (s ≡ media_clock_source None c) };
 
+    fn from(clock: T) -> MediaClockSource {
+        MediaClockSource::new(clock.into())
+    }
+}
+
+impl MediaClock {
     // Direct, without an offset or a rate.
     pub fn new_direct() -> MediaClock
-        ensures { result ≡ MediaClock.Direct (direct OptOffset.NoOffset OptRate.NoRate) }
+        ensures { result ≡ MediaClock.Direct (direct None None) }
     {
         MediaClock::Direct(Direct::new())
     }
 
     // Direct with this offset, without a rate.
     pub fn from_direct_offset(offset: u32) -> MediaClock
-        ensures { result ≡ MediaClock.Direct (direct (OptOffset.SomeOffset offset) OptRate.NoRate) }
+        ensures { result ≡ MediaClock.Direct (direct (Some offset) None) }
     {
         MediaClock::Direct(Direct::with_offset(offset))
     }
 
     // Direct with this rate, without an offset: no offset is not 0.
     pub fn from_direct_rate(rate: Rate) -> MediaClock
-        ensures { result ≡ MediaClock.Direct (direct OptOffset.NoOffset (OptRate.SomeRate rate)) }
+        ensures { result ≡ MediaClock.Direct (direct None (Some rate)) }
     {
         MediaClock::Direct(Direct::with_rate(rate))
     }
 
     // Direct with both.
     pub fn from_direct_offset_and_rate(offset: u32, rate: Rate) -> MediaClock
-        ensures { result ≡ MediaClock.Direct (direct (OptOffset.SomeOffset offset) (OptRate.SomeRate rate)) }
+        ensures { result ≡ MediaClock.Direct (direct (Some offset) (Some rate)) }
     {
         MediaClock::Direct(Direct::with_offset_and_rate(offset, rate))
     }
@@ -295,33 +241,48 @@ impl MediaClock {
 
     // An extension of this name, without a value.
     pub fn from_extended_name(name: Place) -> MediaClock
-        ensures { result ≡ MediaClock.Ext (media_clock_ext name OptValue.NoValue) }
+        ensures { result ≡ MediaClock.Ext (media_clock_ext name None) }
     {
         MediaClock::Ext(MediaClockExt::new(name))
     }
 
     // An extension of this name with a value, which may be empty.
     pub fn from_extended_name_with_value(name: Place, value: Place) -> MediaClock
-        ensures { result ≡ MediaClock.Ext (media_clock_ext name (OptValue.SomeValue value)) }
+        ensures { result ≡ MediaClock.Ext (media_clock_ext name (Some value)) }
     {
         MediaClock::Ext(MediaClockExt::with_value(name, value))
     }
+}
 
-    pub fn from_direct(direct: Direct) -> MediaClock
-        ensures { result ≡ MediaClock.Direct direct }
-    {
+// The sender. By hand, as the promise that a derive makes would follow its attribute.
+impl Default for MediaClock {
+    ghost is_default = { λ c. c ≡ clock.Sender };
+
+    fn default() -> MediaClock {
+        MediaClock::Sender
+    }
+}
+
+impl From<Direct> for MediaClock {
+    ghost from_gives = { λ d c. c ≡ clock.Direct d };
+
+    fn from(direct: Direct) -> MediaClock {
         MediaClock::Direct(direct)
     }
+}
 
-    pub fn from_eui64(stream: Eui64) -> MediaClock
-        ensures { result ≡ MediaClock.Ieee1722StreamId stream }
-    {
+impl From<Eui64> for MediaClock {
+    ghost from_gives = { λ e c. c ≡ clock.Ieee1722StreamId e };
+
+    fn from(stream: Eui64) -> MediaClock {
         MediaClock::Ieee1722StreamId(stream)
     }
+}
 
-    pub fn from_media_clock_ext(ext: MediaClockExt) -> MediaClock
-        ensures { result ≡ MediaClock.Ext ext }
-    {
+impl From<MediaClockExt> for MediaClock {
+    ghost from_gives = { λ e c. c ≡ clock.Ext e };
+
+    fn from(ext: MediaClockExt) -> MediaClock {
         MediaClock::Ext(ext)
     }
 }
@@ -350,13 +311,6 @@ impl MediaClockId {
 }
 
 impl Rate {
-    // 0/0, as in the Rust: a rate that no value has.
-    pub fn default() -> Rate
-        ensures { result ≡ rate 0 0 }
-    {
-        Rate::new(0, 0)
-    }
-
     // Not reduced, and a denominator 0 is not refused here.
     pub fn new(numerator: u32, denominator: u32) -> Rate
         ensures { result ≡ rate numerator denominator }
@@ -372,39 +326,34 @@ impl Rate {
     {
         self.numerator == 1 && self.denominator == 1
     }
+}
 
-    pub fn from_numerator_and_denominator(numerator: u32, denominator: u32) -> Rate
-        ensures { result ≡ rate numerator denominator }
-    {
+impl From<(u32, u32)> for Rate {
+    ghost from_gives = { λ p r. r ≡ rate p.0 p.1 };
+
+    fn from((numerator, denominator): (u32, u32)) -> Rate {
         Rate::new(numerator, denominator)
     }
 }
 
 impl Direct {
     // No offset and no rate.
-    pub fn default() -> Direct
-        ensures { result ≡ direct OptOffset.NoOffset OptRate.NoRate }
-    {
-        Direct::new()
-    }
-
-    // No offset and no rate.
     pub fn new() -> Direct
-        ensures { result ≡ direct OptOffset.NoOffset OptRate.NoRate }
+        ensures { result ≡ direct None None }
     {
         Direct {
-            offset: OptOffset::NoOffset,
-            rate: OptRate::NoRate,
+            offset: None,
+            rate: None,
         }
     }
 
     // This offset, and no rate.
     pub fn with_offset(offset: u32) -> Direct
-        ensures { result ≡ direct (OptOffset.SomeOffset offset) OptRate.NoRate }
+        ensures { result ≡ direct (Some offset) None }
     {
         Direct {
-            offset: OptOffset::SomeOffset(offset),
-            rate: OptRate::NoRate,
+            offset: Some(offset),
+            rate: None,
         }
     }
 
@@ -413,18 +362,18 @@ impl Direct {
     {
         let rate = self.rate;
         Direct {
-            offset: OptOffset::SomeOffset(offset),
+            offset: Some(offset),
             rate,
         }
     }
 
     // This rate, and no offset: no offset is not 0.
     pub fn with_rate(rate: Rate) -> Direct
-        ensures { result ≡ direct OptOffset.NoOffset (OptRate.SomeRate rate) }
+        ensures { result ≡ direct None (Some rate) }
     {
         Direct {
-            offset: OptOffset::NoOffset,
-            rate: OptRate::SomeRate(rate),
+            offset: None,
+            rate: Some(rate),
         }
     }
 
@@ -434,17 +383,17 @@ impl Direct {
         let offset = self.offset;
         Direct {
             offset,
-            rate: OptRate::SomeRate(rate),
+            rate: Some(rate),
         }
     }
 
     // Both.
     pub fn with_offset_and_rate(offset: u32, rate: Rate) -> Direct
-        ensures { result ≡ direct (OptOffset.SomeOffset offset) (OptRate.SomeRate rate) }
+        ensures { result ≡ direct (Some offset) (Some rate) }
     {
         Direct {
-            offset: OptOffset::SomeOffset(offset),
-            rate: OptRate::SomeRate(rate),
+            offset: Some(offset),
+            rate: Some(rate),
         }
     }
 }
@@ -452,21 +401,18 @@ impl Direct {
 impl MediaClockExt {
     // A name without a value.
     pub fn new(name: Place) -> MediaClockExt
-        ensures { result ≡ media_clock_ext name OptValue.NoValue }
+        ensures { result ≡ media_clock_ext name None }
     {
-        MediaClockExt {
-            name,
-            value: OptValue::NoValue,
-        }
+        MediaClockExt { name, value: None }
     }
 
     // A name and a value, which may be empty.
     pub fn with_value(name: Place, value: Place) -> MediaClockExt
-        ensures { result ≡ media_clock_ext name (OptValue.SomeValue value) }
+        ensures { result ≡ media_clock_ext name (Some value) }
     {
         MediaClockExt {
             name,
-            value: OptValue::SomeValue(value),
+            value: Some(value),
         }
     }
 

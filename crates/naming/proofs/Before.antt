@@ -1,10 +1,9 @@
 -- The rule of before was there, and lawful, and today's calls the same whatever it did. Assumes nothing.
+use Rattle.std.specs.Prelude.{Result, Ok, Err}
 use mathlib.Core.Path.{◌≡◌, refl, sym, ap, ◌∙◌}
 use mathlib.Core.Bool.{Bool, false}
 use Rattle.text.specs.Word.{same}
 use Rattle.text.proofs.Bools.{clash}
-use Rattle.clock.specs.declared.ReferenceClockRead.{ReferenceClockRead}
-use Rattle.clock.specs.declared.ReferenceClockRead.TheVariants.{Accepted, Refused}
 use Rattle.meaning.specs.ReferenceClock.{read_reference_clock}
 use Rattle.meaning.specs.Meaning.{ref_meaning}
 use Rattle.equal.specs.Decides.{Decides}
@@ -16,18 +15,20 @@ use Rattle.streams.specs.Rule.{Value}
 use Rattle.naming.specs.Domain.{domain_of}
 use Rattle.naming.specs.ClockRule.{is_accepted, ThereWas, WasLawful, WasNarrower}
 use Rattle.naming.proofs.ClockRule.{accepted_by, same_domain, refused_domain}
+use Rattle.clock.specs.declared.ReferenceClock.{ReferenceClock}
+use Rattle.clock.specs.declared.Refusal.{Refusal}
 
 -- equal records, as a test
-abbrev both_equal : Value → ReferenceClockRead → Value → ReferenceClockRead → Bool
-both_equal v (Accepted c) w (Accepted d) = alike same (ref_meaning v c) (ref_meaning w d)
-both_equal v (Accepted c) w (Refused r) = false
-both_equal v (Refused r) w x = false
+abbrev both_equal : Value → Result ReferenceClock Refusal → Value → Result ReferenceClock Refusal → Bool
+both_equal v (Ok c) w (Ok d) = alike same (ref_meaning v c) (ref_meaning w d)
+both_equal v (Ok c) w (Err r) = false
+both_equal v (Err r) w x = false
 
 equal_decides : (v w : Value) → Decides (both_equal v (read_reference_clock v) w (read_reference_clock w)) (EqualRecords v w)
 equal_decides v w = go (read_reference_clock v) (read_reference_clock w) refl refl
   where
-    go : (x y : ReferenceClockRead) → read_reference_clock v ≡ x → read_reference_clock w ≡ y → Decides (both_equal v x w y) (EqualRecords v w)
-    go (Accepted c) (Accepted d) e f =
+    go : (x y : Result ReferenceClock Refusal) → read_reference_clock v ≡ x → read_reference_clock w ≡ y → Decides (both_equal v x w y) (EqualRecords v w)
+    go (Ok c) (Ok d) e f =
         let t = clocks_decide (ref_meaning v c) (ref_meaning w d) in
         record {
           right = λ h. record { first = c; second = d; is_first = e; is_second = f; equal = t.right h };
@@ -36,8 +37,8 @@ equal_decides v w = go (read_reference_clock v) (read_reference_clock w) refl re
               let b : q.second ≡ d = cc (q.is_second, f) in
               t.found (rw (a, b) at q.equal);
         }
-    go (Accepted c) (Refused r) e f = record { right = λ h. clash (cc (h)); found = λ q. clash (cc (q.is_second, f)) }
-    go (Refused r) y e f = record { right = λ h. clash (cc (h)); found = λ q. clash (cc (q.is_first, e)) }
+    go (Ok c) (Err r) e f = record { right = λ h. clash (cc (h)); found = λ q. clash (cc (q.is_second, f)) }
+    go (Err r) y e f = record { right = λ h. clash (cc (h)); found = λ q. clash (cc (q.is_first, e)) }
 
 pub there_was : ThereWas
 there_was =

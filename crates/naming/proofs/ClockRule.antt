@@ -1,10 +1,9 @@
 -- The rule by which values name clocks is there, and lawful. Assumes nothing.
+use Rattle.std.specs.Prelude.{Result, Some, None, Ok, Err, Option}
 use Prim.Native.Nat.{ℕ}
 use mathlib.Core.Path.{◌≡◌, refl, sym, ap, ◌∙◌}
 use mathlib.Core.Bool.{true, false}
-use mathlib.Core.Option.{Option, none, some}
 use Rattle.text.proofs.Bools.{clash}
-use Rattle.clock.specs.declared.OptDomain.TheVariants.{NoDomain, SomeDomain}
 use Rattle.clock.specs.declared.PtpDomain.TheVariants.{DomainName, DomainNumber}
 use Rattle.clock.specs.declared.PtpServer.{PtpServer}
 use Rattle.clock.specs.declared.PtpServer.TheVariants as source
@@ -13,8 +12,6 @@ use Rattle.clock.specs.declared.NtpServerAddr.{NtpServerAddr}
 use Rattle.clock.specs.declared.NtpServerAddr.TheVariants as server
 use Rattle.clock.specs.declared.ReferenceClock.{ReferenceClock}
 use Rattle.clock.specs.declared.ReferenceClock.TheVariants as clock
-use Rattle.clock.specs.declared.ReferenceClockRead.{ReferenceClockRead}
-use Rattle.clock.specs.declared.ReferenceClockRead.TheVariants.{Accepted, Refused}
 use Rattle.meaning.specs.ReferenceClock.{read_reference_clock}
 use Rattle.meaning.specs.Meaning.{Domain, Server, RefMeaning, ref_meaning, server_means}
 use Rattle.meaning.specs.Meaning as means
@@ -25,34 +22,35 @@ use Rattle.questions.proofs.Owed.{same_clock_decides, same_classes}
 use Rattle.streams.specs.Rule.{Value}
 use Rattle.naming.specs.Domain.{server_domain, domain_in, read_domain, domain_of}
 use Rattle.naming.specs.ClockRule.{is_accepted, ThereIs, IsLawful}
+use Rattle.clock.specs.declared.Refusal.{Refusal}
 
 -- the domain number, told from what a record means
 abbrev domain_meant : Option Domain → Option ℕ
-domain_meant none = none
-domain_meant (some (means.name s)) = none
-domain_meant (some (means.number n)) = some n
+domain_meant None = None
+domain_meant (Some (means.name s)) = None
+domain_meant (Some (means.number n)) = Some n
 
 abbrev server_meant : Server → Option ℕ
 server_meant (means.gmid g d) = domain_meant d
-server_meant means.traceable = none
+server_meant means.traceable = None
 
 abbrev clock_meant : RefMeaning → Option ℕ
-clock_meant means.ntp_traceable = none
-clock_meant (means.ntp_host h p) = none
+clock_meant means.ntp_traceable = None
+clock_meant (means.ntp_host h p) = None
 clock_meant (means.ptp v s) = server_meant s
-clock_meant means.gps = none
-clock_meant means.gal = none
-clock_meant means.glonass = none
-clock_meant means.local = none
-clock_meant means.private_standard = none
-clock_meant means.private_traceable = none
-clock_meant (means.ref_ext n v) = none
+clock_meant means.gps = None
+clock_meant means.gal = None
+clock_meant means.glonass = None
+clock_meant means.local = None
+clock_meant means.private_standard = None
+clock_meant means.private_traceable = None
+clock_meant (means.ref_ext n v) = None
 
 server_meant_lem : (v : Value) (s : PtpServer) → server_domain s ≡ server_meant (server_means v s)
 server_meant_lem v source.Traceable = refl
-server_meant_lem v (source.GmidDomain g NoDomain) = refl
-server_meant_lem v (source.GmidDomain g (SomeDomain (DomainName p))) = refl
-server_meant_lem v (source.GmidDomain g (SomeDomain (DomainNumber n))) = refl
+server_meant_lem v (source.GmidDomain g None) = refl
+server_meant_lem v (source.GmidDomain g (Some (DomainName p))) = refl
+server_meant_lem v (source.GmidDomain g (Some (DomainNumber n))) = refl
 
 clock_meant_lem : (v : Value) (c : ReferenceClock) → domain_in c ≡ clock_meant (ref_meaning v c)
 unfolding domain_in ref_meaning
@@ -75,7 +73,7 @@ one_meant : (hosts : Hosts) (m n : RefMeaning) → OneClock hosts m n → clock_
 one_meant hosts m n (equal e) = ap clock_meant e
 one_meant hosts m n (servers h g port e a b) = rw (a, b) refl
 
-pub accepted_domain : (v : Value) (c : ReferenceClock) → read_reference_clock v ≡ Accepted c → domain_of v ≡ domain_in c
+pub accepted_domain : (v : Value) (c : ReferenceClock) → read_reference_clock v ≡ Ok c → domain_of v ≡ domain_in c
 unfolding domain_of
 accepted_domain v c e = simp e
 
@@ -84,20 +82,20 @@ same_domain v w s =
     accepted_domain v s.first s.is_first ∙ clock_meant_lem v s.first ∙ one_meant _ _ _ s.one
     ∙ sym (accepted_domain w s.second s.is_second ∙ clock_meant_lem w s.second)
 
-pub accepted_by : (v : Value) → is_accepted (read_reference_clock v) ≡ true → (c : ReferenceClock) × (read_reference_clock v ≡ Accepted c)
+pub accepted_by : (v : Value) → is_accepted (read_reference_clock v) ≡ true → (c : ReferenceClock) × (read_reference_clock v ≡ Ok c)
 accepted_by v h = go (read_reference_clock v) refl h
   where
-    go : (x : ReferenceClockRead) → read_reference_clock v ≡ x → is_accepted x ≡ true → (c : ReferenceClock) × (read_reference_clock v ≡ Accepted c)
-    go (Accepted c) e h = (c, e)
-    go (Refused r) e h = clash (cc)
+    go : (x : Result ReferenceClock Refusal) → read_reference_clock v ≡ x → is_accepted x ≡ true → (c : ReferenceClock) × (read_reference_clock v ≡ Ok c)
+    go (Ok c) e h = (c, e)
+    go (Err r) e h = clash (cc)
 
-pub refused_domain : (v : Value) → is_accepted (read_reference_clock v) ≡ false → domain_of v ≡ none
+pub refused_domain : (v : Value) → is_accepted (read_reference_clock v) ≡ false → domain_of v ≡ None
 unfolding domain_of
 refused_domain v h = go (read_reference_clock v) h
   where
-    go : (x : ReferenceClockRead) → is_accepted x ≡ false → read_domain x ≡ none
-    go (Accepted c) h = clash (cc)
-    go (Refused r) h = refl
+    go : (x : Result ReferenceClock Refusal) → is_accepted x ≡ false → read_domain x ≡ None
+    go (Ok c) h = clash (cc)
+    go (Err r) h = refl
 
 pub there_is : ThereIs
 there_is =

@@ -1,17 +1,17 @@
 -- The rule by which ts-refclk values name clocks: what is said over any rule that meets this is said of the same-clock question.
-use Rattle.std.specs.Prelude.{◌≡◌, Bool, true, false}
-use Rattle.clock.specs.declared.ReferenceClockRead.{ReferenceClockRead}
-use Rattle.clock.specs.declared.ReferenceClockRead.TheVariants.{Accepted, Refused}
+use Rattle.std.specs.Prelude.{◌≡◌, Bool, true, false, Result, Ok, Err}
 use Rattle.meaning.specs.ReferenceClock.{read_reference_clock}
 use Rattle.equal.specs.Decides.{Decides}
 use Rattle.questions.specs.SameClock.{SameClock}
 use Rattle.questions.specs.Owed.{EqualRecords}
 use Rattle.streams.specs.Rule.{Value, Rule, Lawful, Narrower}
 use Rattle.naming.specs.Domain.{domain_of}
+use Rattle.clock.specs.declared.ReferenceClock.{ReferenceClock}
+use Rattle.clock.specs.declared.Refusal.{Refusal}
 
-abbrev pub is_accepted : ReferenceClockRead → Bool
-is_accepted (Accepted c) = true
-is_accepted (Refused r) = false
+abbrev pub is_accepted : Result ReferenceClock Refusal → Bool
+is_accepted (Ok c) = true
+is_accepted (Err r) = false
 
 pub record ClockRule (R : Rule) : Type 0 where
   pub accepted : (v : Value) → R.accepted v ≡ is_accepted (read_reference_clock v)

@@ -4,7 +4,7 @@
 ghost use Rattle.std.specs.Prelude.{◌≡◌};
 ghost use Rattle.naming.specs.Domain.{or_none, server_domain, domain_in};
 
-use clock::{OptDomain, PtpDomain, PtpServer, ReferenceClock};
+use clock::{PtpDomain, PtpServer, ReferenceClock};
 
 fn server_domain(server: PtpServer) -> usize
     ensures { result ≡ or_none (server_domain server) }
@@ -12,8 +12,8 @@ fn server_domain(server: PtpServer) -> usize
     match server {
         PtpServer::Traceable => 128,
         PtpServer::GmidDomain { gmid: _, domain } => match domain {
-            OptDomain::NoDomain => 128,
-            OptDomain::SomeDomain(d) => match d {
+            None => 128,
+            Some(d) => match d {
                 PtpDomain::DomainName { name: _ } => 128,
                 PtpDomain::DomainNumber(n) => n as usize,
             },

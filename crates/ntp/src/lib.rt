@@ -1,127 +1,98 @@
-// What follows `ntp=` in a ts-refclk value: the server, or the refusal of the first rule that is broken. Each text starts at the place `at` of the
-// whole value, and the places in it fit a usize.
+// What follows `ntp=` in a ts-refclk value: the server, or the refusal of the first rule that is broken.
 #![tactic(auto)]
 
-ghost use Rattle.std.specs.Prelude.{◌≡◌, ◌+◌, ◌-◌, ◌^◌, ◌≤◌, ◌<◌, length, take, drop};
+ghost use Rattle.std.specs.Prelude.{◌≡◌, ◌≤◌, length};
 ghost use Rattle.meaning.specs.ReferenceClock.{port_of, address_of, bracket_of, host_of, ntp_of};
-ghost use Rattle.ntp.specs.Private.AsAnswer.{port_answer};
-ghost use Rattle.ntp.specs.AsAnswer.{ntp_answer};
 
-use clock::{NtpServerAddr, OptPort, Refusal};
-use text::Place;
-
-#[derive(Clone, Copy)]
-enum PortRead {
-    Accepted(OptPort),
-    Refused(Refusal),
-}
-
-#[derive(Clone, Copy)]
-pub enum NtpRead {
-    Accepted(NtpServerAddr),
-    Refused(Refusal),
-}
+use clock::{NtpServerAddr, Refusal};
+use part::Part;
 
 // A port, or the refusal that its caller gives.
-fn read_port(p: &[u8], refusal: Refusal) -> PortRead
-    ensures { port_answer result ≡ port_of refusal p.now }
+#[tactic(auto, using(crate::proofs::Laws::laws))]
+fn read_port(p: &[u8], refusal: Refusal) -> Result<Option<u16>, Refusal>
+    ensures { result ≡ port_of refusal p.now }
 {
-    let got = number::read_number(p, 65535);
-    let number::Number::Value(n) = got else {
-        return PortRead::Refused(refusal);
-    };
-    let port = n as u16;
-    PortRead::Accepted(OptPort::SomePort(port))
+    let port = number::read_number(p, 65535).map_err(|_| refusal)?;
+    Ok(Some(port as u16))
 }
 
-// The part of `p` from after the bracket up to `end` must itself be an IP address: it is the host.
-fn read_address(p: &[u8], at: usize, end: usize, port: OptPort, broken: Refusal) -> NtpRead
-    requires { (at + length p.now < 2 ^ 64) × (1 ≤ end) × (end ≤ length p.now) }
-    ensures { ntp_answer result ≡ address_of broken (at + 1) (take (end - 1) (drop 1 p.now)) port }
+// What stands inside the brackets must itself be an IP address: it is the host.
+#[tactic(auto, using(crate::proofs::Laws::laws))]
+fn read_address(p: Part, port: Option<u16>, broken: Refusal) -> Result<NtpServerAddr, Refusal>
+    ensures { result ≡ address_of broken p.entry.at p.entry.text.now port }
 {
-    if ipaddr::is_ip_address(&p[1..end]) {
-        let start = at + 1;
-        let len = end - 1;
-        let hostname = Place { start, len };
-        return NtpRead::Accepted(NtpServerAddr::HostPort { hostname, port });
+    if !ipaddr::is_ip_address(p.text) {
+        return Err(broken);
     }
-    NtpRead::Refused(broken)
+    Ok(NtpServerAddr::HostPort {
+        hostname: p.place(),
+        port,
+    })
 }
 
 // The bracket rule: the port behind the first `]:` is read first; without one the last byte must be `]`.
-fn read_bracket(p: &[u8], at: usize) -> NtpRead
-    requires { (at + length p.now < 2 ^ 64) × (1 ≤ length p.now) }
-    ensures { ntp_answer result ≡ bracket_of at p.now }
+#[tactic(auto, using(crate::proofs::Laws::laws))]
+fn read_bracket(p: Part) -> Result<NtpServerAddr, Refusal>
+    requires { 1 ≤ length p.text.now }
+    ensures { result ≡ bracket_of p.entry.at p.entry.text.now }
 {
-    let n = p.len();
-    let broken = Refusal::new(4, at, n);
-    let i = search::find_pair(&p[1..], b']', b':');
-    let end = i + 1;
-    if end < n {
-        let d = end + 2;
-        match read_port(&p[d..], broken) {
-            PortRead::Accepted(port) => return read_address(p, at, end, port, broken),
-            PortRead::Refused(r) => return NtpRead::Refused(r),
-        }
+    let broken = p.refused(4);
+    let inside = p.behind(1);
+    let n = inside.text.len();
+    let i = search::find_pair(inside.text, b']', b':');
+    if i < n {
+        let port = read_port(inside.behind(i + 2).text, broken)?;
+        return read_address(inside.front(i), port, broken);
     }
-    if text::ends_in(&p[1..], b']') {
-        let last = n - 1;
-        return read_address(p, at, last, OptPort::NoPort, broken);
+    if !text::ends_in(inside.text, b']') {
+        return Err(broken);
     }
-    NtpRead::Refused(broken)
+    read_address(inside.front(n - 1), None, broken)
 }
 
 // A host, and the port behind the last `:` where there is one.
-fn read_host(p: &[u8], at: usize) -> NtpRead
-    requires { at + length p.now < 2 ^ 64 }
-    ensures { ntp_answer result ≡ host_of at p.now }
+#[tactic(auto, using(crate::proofs::Laws::laws))]
+fn read_host(p: Part) -> Result<NtpServerAddr, Refusal>
+    ensures { result ≡ host_of p.entry.at p.entry.text.now }
 {
-    let n = p.len();
-    let d = search::through_last(p, b':');
+    let d = search::through_last(p.text, b':');
     if d == 0 {
-        let hostname = Place { start: at, len: n };
-        return NtpRead::Accepted(NtpServerAddr::HostPort {
-            hostname,
-            port: OptPort::NoPort,
+        return Ok(NtpServerAddr::HostPort {
+            hostname: p.place(),
+            port: None,
         });
     }
     if d == 1 {
-        return NtpRead::Refused(Refusal::new(5, at, 0));
+        return Err(Refusal::new(5, p.at, 0));
     }
-    let start = at + d;
-    let len = n - d;
-    match read_port(&p[d..], Refusal::new(6, start, len)) {
-        PortRead::Accepted(port) => {
-            let len = d - 1;
-            let hostname = Place { start: at, len };
-            NtpRead::Accepted(NtpServerAddr::HostPort { hostname, port })
-        }
-        PortRead::Refused(r) => NtpRead::Refused(r),
-    }
+    let port = p.behind(d);
+    let port = read_port(port.text, port.refused(6))?;
+    Ok(NtpServerAddr::HostPort {
+        hostname: p.front(d - 1).place(),
+        port,
+    })
 }
 
 // The rules in their order. The text stands at the place 4, behind the `ntp=`.
-pub fn read_ntp(p: &[u8]) -> NtpRead
-    ensures { ntp_answer result ≡ ntp_of 4 p.now }
+#[tactic(auto, using(crate::proofs::Laws::laws))]
+pub fn read_ntp(p: &[u8]) -> Result<NtpServerAddr, Refusal>
+    ensures { result ≡ ntp_of 4 p.now }
 {
-    let n = p.len();
-    if n == 0 {
-        return NtpRead::Refused(Refusal::new(3, 4, 0));
+    let p = Part { text: p, at: 4 };
+    if p.text.is_empty() {
+        return Err(p.refused(3));
     }
-    let traceable = text::is_word(p, b"/traceable/");
-    if traceable {
-        return NtpRead::Accepted(NtpServerAddr::Traceable);
+    if text::is_word(p.text, b"/traceable/") {
+        return Ok(NtpServerAddr::Traceable);
     }
-    let address = ipaddr::is_ip_address(p);
-    if address {
-        let hostname = Place { start: 4, len: n };
-        return NtpRead::Accepted(NtpServerAddr::HostPort {
-            hostname,
-            port: OptPort::NoPort,
+    if ipaddr::is_ip_address(p.text) {
+        return Ok(NtpServerAddr::HostPort {
+            hostname: p.place(),
+            port: None,
         });
     }
-    if text::has_prefix(p, b"[") {
-        return read_bracket(p, 4);
+    if text::has_prefix(p.text, b"[") {
+        return read_bracket(p);
     }
-    read_host(p, 4)
+    read_host(p)
 }

@@ -1,4 +1,5 @@
 -- Laws of the definitions, one for each way out of this crate's functions. Assumes nothing.
+use Rattle.std.specs.Prelude.{Result, Ok, Err}
 use Prim.Native.Nat.{ℕ, ◌+◌, ◌*◌, ◌-◌, ◌≤◌, ◌<◌, min}
 use mathlib.Core.Path.{◌≡◌, refl, ap, sym, ◌∙◌}
 use mathlib.Core.List.{List, [], ◌∷◌}
@@ -9,11 +10,10 @@ use lib.ListN.{length, drop, get_or}
 use borrow.Author.Tests.{leb-true, le-leb, lt-leb, eq-eqb, ne_eqb, ltb-true, ltb-false}
 use Rattle.text.proofs.Bools.{by_bool, clash}
 use Rattle.text.proofs.Left.{rest, rest_is, next_byte, none_left}
-use Rattle.number.specs.declared.Number.{Number}
-use Rattle.number.specs.declared.Number.TheVariants.{Value, Refused}
 use Rattle.number.specs.declared.Reason.TheVariants.{Empty, Digit, Size}
 use Rattle.number.specs.Decimal.{after_plus, is_digit, all_digits, value_from, digits_of, number_of}
 use Rattle.number.specs.Hex.{between, hex_digit}
+use Rattle.number.specs.declared.Reason.{Reason}
 
 -- a byte and a range
 pub inside : (a z b : ℕ) → a ≤ b → b ≤ z → between a z b ≡ true
@@ -47,7 +47,7 @@ pub record Inv (s : List ℕ) (limit value i : ℕ) : Type 0 where
   pub digits : all_digits (drop i s) ≡ all_digits s
   pub number : min (value_from value (drop i s)) (limit + 1) ≡ min (value_from 0 s) (limit + 1)
 
-pub digits_empty : (limit : ℕ) (s : List ℕ) → length s ≡ 0 → Refused Empty ≡ digits_of limit s
+pub digits_empty : (limit : ℕ) (s : List ℕ) → length s ≡ 0 → Err Empty ≡ digits_of limit s
 unfolding digits_of
 digits_empty limit s h = simp (eq-eqb _ _ h)
 
@@ -60,14 +60,14 @@ module _ {s : List ℕ} {limit value i : ℕ} (inv : Inv s limit value i) where
     unfolding all_digits
     first_digit = sym inv.digits ∙ ap all_digits (next_byte s i h)
 
-    pub digits_next : 48 ≤ get_or s i 0 → get_or s i 0 ≤ 57 → (w : ℕ) → w ≡ min (value * 10 + (get_or s i 0 - 48)) (limit + 1)
+    pub digits_next : is_digit (get_or s i 0) ≡ true → (w : ℕ) → w ≡ min (value * 10 + (get_or s i 0 - 48)) (limit + 1)
         → Inv s limit w (i + 1)
     unfolding value_from
-    digits_next lo hi w e =
+    digits_next d w e =
         record {
           within = omega arith;
           small = omega arith;
-          digits = sym (first_digit ∙ simp (inside 48 57 (get_or s i 0) lo hi));
+          digits = sym (first_digit ∙ simp d);
           number =
               rw e
               (capped (limit + 1) (value * 10 + (get_or s i 0 - 48)) (drop (i + 1) s)
@@ -75,15 +75,9 @@ module _ {s : List ℕ} {limit value i : ℕ} (inv : Inv s limit value i) where
               ∙ inv.number);
         }
 
-    no_digit : is_digit (get_or s i 0) ≡ false → Refused Digit ≡ digits_of limit s
+    pub digits_not : is_digit (get_or s i 0) ≡ false → Err Digit ≡ digits_of limit s
     unfolding digits_of
-    no_digit e = simp (ne_eqb (length s) 0 (λ z. omega arith), first_digit, e)
-
-    pub digits_below : get_or s i 0 < 48 → Refused Digit ≡ digits_of limit s
-    digits_below k = no_digit (below 48 57 (get_or s i 0) k)
-
-    pub digits_above : 57 < get_or s i 0 → Refused Digit ≡ digits_of limit s
-    digits_above k = no_digit (above 48 57 (get_or s i 0) k)
+    digits_not e = simp (ne_eqb (length s) 0 (λ z. omega arith), first_digit, e)
 
   module _ (some : length s ≡ 0 → ⊥) (h : length s ≤ i) where
     all_are : all_digits s ≡ true
@@ -94,43 +88,38 @@ module _ {s : List ℕ} {limit value i : ℕ} (inv : Inv s limit value i) where
     unfolding value_from
     value_is = ap (λ (l : List ℕ). min (value_from value l) (limit + 1)) (sym (none_left s i h)) ∙ inv.number
 
-    pub digits_large : limit < value → Refused Size ≡ digits_of limit s
+    pub digits_large : limit < value → Err Size ≡ digits_of limit s
     unfolding digits_of
     digits_large k =
         simp (ne_eqb (length s) 0 some, all_are, lt-leb (value_from 0 s) limit (omega (arith, value_is)))
 
-    pub digits_all : value ≤ limit → Value value ≡ digits_of limit s
+    pub digits_all : value ≤ limit → Ok value ≡ digits_of limit s
     unfolding digits_of
     digits_all k =
         let e : value_from 0 s ≡ value = omega (arith, value_is) in
         simp (ne_eqb (length s) 0 some, all_are, e, le-leb value limit k)
 
 -- the sign
+pub bare_short : (s : List ℕ) → length s < 1 → after_plus s ≡ s
+bare_short [] h = refl
+bare_short (b ∷ s) h = absurd (omega arith)
+
+pub bare_other : (s : List ℕ) → (get_or s 0 0 ≡ 43 → ⊥) → after_plus s ≡ s
+bare_other [] h = refl
+bare_other (b ∷ s) h = simp (ne_eqb b 43 h)
+
+behind_plus : (s : List ℕ) → 1 ≤ length s → get_or s 0 0 ≡ 43 → after_plus s ≡ rest 1 s
+behind_plus [] some h = absurd (omega arith)
+behind_plus (b ∷ s) some h = simp (eq-eqb b 43 h) (sym (rest_is 1 (b ∷ s)))
+
 module _ (limit : ℕ) (s : List ℕ) where
-  pub number_empty : length s ≡ 0 → Refused Empty ≡ number_of limit s
+  pub number_plus : 1 ≤ length s → get_or s 0 0 ≡ 43 → (r : Result ℕ Reason) → r ≡ digits_of limit (rest 1 s) → r ≡ number_of limit s
   unfolding number_of
-  number_empty h = digits_empty limit (after_plus s) (none s h)
-    where
-      none : (s : List ℕ) → length s ≡ 0 → length (after_plus s) ≡ 0
-      none [] h = refl
-      none (b ∷ s) h = absurd (omega arith)
+  number_plus some h r e = e ∙ ap (digits_of limit) (sym (behind_plus s some h))
 
-  module _ (some : length s ≡ 0 → ⊥) (r : Number) where
-    pub number_plus : get_or s 0 0 ≡ 43 → r ≡ digits_of limit (rest 1 s) → r ≡ number_of limit s
-    unfolding number_of
-    number_plus h e = e ∙ ap (digits_of limit) (rest_is 1 s ∙ sym (behind s some h))
-      where
-        behind : (s : List ℕ) → (length s ≡ 0 → ⊥) → get_or s 0 0 ≡ 43 → after_plus s ≡ drop 1 s
-        behind [] some h = absurd (some refl)
-        behind (b ∷ s) some h = simp (eq-eqb b 43 h)
-
-    pub number_bare : (get_or s 0 0 ≡ 43 → ⊥) → r ≡ digits_of limit s → r ≡ number_of limit s
-    unfolding number_of
-    number_bare h e = e ∙ ap (digits_of limit) (sym (all s h))
-      where
-        all : (s : List ℕ) → (get_or s 0 0 ≡ 43 → ⊥) → after_plus s ≡ s
-        all [] h = refl
-        all (b ∷ s) h = simp (ne_eqb b 43 h)
+  pub number_bare : after_plus s ≡ s → (r : Result ℕ Reason) → r ≡ digits_of limit s → r ≡ number_of limit s
+  unfolding number_of
+  number_bare h r e = e ∙ ap (digits_of limit) (sym h)
 
 -- the digits of base 16, in the order of the code's tests
 module _ (b : ℕ) where
@@ -166,13 +155,10 @@ pub ruleset laws = (
   digits_empty,
   digits_start,
   digits_next,
-  digits_below,
-  digits_above,
+  digits_not,
   digits_large,
   digits_all,
-  number_empty,
   number_plus,
-  number_bare,
   hex_before,
   hex_decimal,
   hex_between,
@@ -183,7 +169,7 @@ pub ruleset laws = (
 )
 
 -- what callers need: a number that was read is within the limit
-pub number_le : (limit n : ℕ) (s : List ℕ) → Value n ≡ number_of limit s → n ≤ limit
+pub number_le : (limit n : ℕ) (s : List ℕ) → Ok n ≡ number_of limit s → n ≤ limit
 unfolding number_of digits_of
 number_le limit n s h =
     let d = after_plus s in

@@ -1,4 +1,5 @@
 -- What a written number is: digits and nothing else, read back as the number, and no longer than what was read. Assumes nothing.
+use Rattle.std.specs.Prelude.{Ok, Err}
 use Prim.Native.Nat.{ℕ, zero, suc, ◌+◌, ◌-◌, ◌*◌, ◌^◌, ◌/◌, ◌%◌, ◌≤◌, ◌<◌}
 use mathlib.Core.Path.{◌≡◌, refl, sym, ap, ◌∙◌}
 use mathlib.Core.List.{List, [], ◌∷◌, ◌++◌}
@@ -11,7 +12,6 @@ use borrow.Author.Tests.{ne_eqb, eqb-false, leb-true, leb-false, le-leb, lt-ltb,
 use Rattle.text.specs.Find.{through_last}
 use Rattle.text.proofs.Ascii.{ascii, ascii_cons}
 use Rattle.text.proofs.Bools.{by_bool, clash, and_left, and_right}
-use Rattle.number.specs.declared.Number.TheVariants.{Value, Refused}
 use Rattle.number.specs.declared.Reason.TheVariants.{Digit}
 use Rattle.number.specs.Decimal.{is_digit, all_digits, value_from, after_plus, digits_of, number_of, digits_in, decimal}
 use Rattle.number.proofs.Laws.{inside, number_le}
@@ -75,7 +75,7 @@ no_plus (b ∷ s) h =
     let r = digit_range b (and_left (is_digit b) (all_digits s) h) in
     simp (ne_eqb b 43 (λ e. omega arith))
 
-pub number_back_lem : (limit n : ℕ) → n ≤ limit → n < 2 ^ 64 → Value n ≡ number_of limit (decimal n)
+pub number_back_lem : (limit n : ℕ) → n ≤ limit → n < 2 ^ 64 → Ok n ≡ number_of limit (decimal n)
 unfolding number_of digits_of
 number_back_lem limit n h w =
     let d = decimal_digits n w in
@@ -97,12 +97,12 @@ unfolding all_digits
 not_all b [] y h = simp h
 not_all b (a ∷ x) y h = by_bool (is_digit a) (λ e. simp e (not_all b x y h)) (λ e. simp e)
 
-digits_not : (limit b : ℕ) (x y : List ℕ) → is_digit b ≡ false → Refused Digit ≡ digits_of limit (x ++ b ∷ y)
+digits_not : (limit b : ℕ) (x y : List ℕ) → is_digit b ≡ false → Err Digit ≡ digits_of limit (x ++ b ∷ y)
 unfolding digits_of
 digits_not limit b x y h =
     simp (not_all b x y h, ne_eqb (length (x ++ b ∷ y)) 0 (λ e. omega (arith, length-append x (b ∷ y))))
 
-pub number_not : (limit b : ℕ) (x y : List ℕ) → is_digit b ≡ false → (b ≡ 43 → ⊥) → Refused Digit ≡ number_of limit (x ++ b ∷ y)
+pub number_not : (limit b : ℕ) (x y : List ℕ) → is_digit b ≡ false → (b ≡ 43 → ⊥) → Err Digit ≡ number_of limit (x ++ b ∷ y)
 unfolding number_of
 number_not limit b [] y h p = simp (ne_eqb b 43 p) (digits_not limit b [] y h)
 number_not limit b (a ∷ x) y h p =
@@ -181,7 +181,7 @@ plus_short [] = omega arith
 plus_short (b ∷ s) = by_bool (eqb b 43) (λ e. simp e (omega arith)) (λ e. simp e (omega arith))
 
 -- what a number that was read tells of its text
-number_digits : (limit : ℕ) (s : List ℕ) (n : ℕ) → Value n ≡ number_of limit s → Digits (after_plus s) n
+number_digits : (limit : ℕ) (s : List ℕ) (n : ℕ) → Ok n ≡ number_of limit s → Digits (after_plus s) n
 unfolding number_of digits_of
 number_digits limit s n h =
     let d = after_plus s in
@@ -194,7 +194,7 @@ number_digits limit s n h =
     (λ g. clash (cc (simp (e, f, g) at h))))
     (λ f. clash (cc (simp (e, f) at h))))
 
-pub number_short : (limit : ℕ) (s : List ℕ) (n : ℕ) → limit < 2 ^ 64 → Value n ≡ number_of limit s → length (decimal n) ≤ length s
+pub number_short : (limit : ℕ) (s : List ℕ) (n : ℕ) → limit < 2 ^ 64 → Ok n ≡ number_of limit s → length (decimal n) ≤ length s
 number_short limit s n w h =
     let l = number_le limit n s h in
     omega (arith, plus_short s, digits_short (after_plus s) n (omega arith) (number_digits limit s n h))

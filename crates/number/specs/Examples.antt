@@ -1,42 +1,41 @@
 -- What the definitions of this crate say of some texts.
-use Rattle.std.specs.Prelude.{refl, [], ◌∷◌}
+use Rattle.std.specs.Prelude.{refl, [], ◌∷◌, Ok, Err}
 use Rattle.text.specs.Word.{word}
 use Rattle.text.specs.Example.{◌gives◌, Each}
-use Rattle.number.specs.declared.Number.TheVariants.{Value, Refused}
 use Rattle.number.specs.declared.Reason.TheVariants.{Empty, Digit, Size}
 use Rattle.number.specs.Decimal.{all_digits, value_from, digits_of, number_of, digits_in, decimal}
 use Rattle.number.specs.Hex.{hex_digit, hex_capital, hex_small, hex_capitals, hex_bytes}
 
 -- a domain, at most 127
 domains : Each (number_of 127) (
-    word "" gives Refused Empty
-    ∷ word "+" gives Refused Empty
-    ∷ word "++" gives Refused Digit
-    ∷ word "++1" gives Refused Digit
-    ∷ word "-0" gives Refused Digit
-    ∷ word "0" gives Value 0
-    ∷ word "+0" gives Value 0
-    ∷ word "127" gives Value 127
-    ∷ word "+0127" gives Value 127
-    ∷ word "00000000000000005" gives Value 5
-    ∷ word "128" gives Refused Size
-    ∷ word "99999999999999999999999a" gives Refused Digit
-    ∷ word " 1" gives Refused Digit
-    ∷ word "1/" gives Refused Digit
-    ∷ word "1:" gives Refused Digit
+    word "" gives Err Empty
+    ∷ word "+" gives Err Empty
+    ∷ word "++" gives Err Digit
+    ∷ word "++1" gives Err Digit
+    ∷ word "-0" gives Err Digit
+    ∷ word "0" gives Ok 0
+    ∷ word "+0" gives Ok 0
+    ∷ word "127" gives Ok 127
+    ∷ word "+0127" gives Ok 127
+    ∷ word "00000000000000005" gives Ok 5
+    ∷ word "128" gives Err Size
+    ∷ word "99999999999999999999999a" gives Err Digit
+    ∷ word " 1" gives Err Digit
+    ∷ word "1/" gives Err Digit
+    ∷ word "1:" gives Err Digit
     ∷ [])
 unfolding number_of digits_of all_digits value_from
 domains = refl
 
 -- a port, and an offset or a rate, at their widths
-ports : Each (number_of 65535) (word "65535" gives Value 65535 ∷ word "65536" gives Refused Size ∷ word "+080" gives Value 80 ∷ [])
+ports : Each (number_of 65535) (word "65535" gives Ok 65535 ∷ word "65536" gives Err Size ∷ word "+080" gives Ok 80 ∷ [])
 unfolding number_of digits_of all_digits value_from
 ports = refl
 
 offsets : Each (number_of 4294967295) (
-    word "4294967295" gives Value 4294967295
-    ∷ word "4294967296" gives Refused Size
-    ∷ word "18446744073709551616" gives Refused Size
+    word "4294967295" gives Ok 4294967295
+    ∷ word "4294967296" gives Err Size
+    ∷ word "18446744073709551616" gives Err Size
     ∷ [])
 unfolding number_of digits_of all_digits value_from
 offsets = refl

@@ -1,4 +1,6 @@
 -- One law for each way out of this crate's functions, and the invariant of the loop over a fragment. Assumes nothing.
+use Rattle.std.specs.Prelude.{Some, None}
+use Rattle.openline.specs.declared.Advanced.{Advanced}
 use Prim.Native.Nat.{ℕ, suc, ◌+◌, ◌*◌, ◌-◌, ◌^◌, ◌≤◌, ◌<◌, min}
 use mathlib.Core.Path.{◌≡◌, refl, sym, ap, ◌∙◌}
 use mathlib.Core.List.{List, [], ◌∷◌, ◌++◌, append_assoc, append-nil}
@@ -31,7 +33,6 @@ use Rattle.briefreply.specs.Gives.{Gives, with_front}
 use Rattle.briefreply.specs.Plain.{plain, plain_reply}
 use Rattle.briefreply.specs.declared.ReplySize.{ReplySize}
 use Rattle.briefreply.proofs.Laws.{plain_reply_lem, plain_cut}
-use Rattle.openline.specs.declared.Advance.TheVariants.{Made, NoRoom}
 use Rattle.openline.specs.declared.Progress.{Progress}
 use Rattle.openline.specs.declared.Ran.{Ran}
 use Rattle.openline.specs.Memory.{memory_at_end, memory_after}
@@ -386,13 +387,13 @@ module _ (begun s : List ℕ) (room : ℕ) where
 
 -- `go_on` and `end_text`: the text t is printed, or not.
 module _ {t line : List ℕ} {totals : Totals} {kept memory room : List ℕ} where
-  nothing_made : leb (length t) (length room) ≡ false → Advances t line totals kept memory room NoRoom memory room
+  nothing_made : leb (length t) (length room) ≡ false → Advances t line totals kept memory room None memory room
   unfolding with_front
   nothing_made f =
       record { answer = simp f; room = simp f; memory = simp f; front = λ h. absurd (omega (arith, leb-false (length t) (length room) f)) }
 
   all_made : {n len : ℕ} {after : Totals} {room' : List ℕ} → leb (length t) (length room) ≡ true → Prints t room 0 n room' → len ≡ length line → after ≡ totals
-      → take (length line) kept ≡ line → Advances t line totals kept memory room (Made (record { filled = n; len = len; totals = after })) kept room'
+      → take (length line) kept ≡ line → Advances t line totals kept memory room (Some (record { filled = n; len = len; totals = after })) kept room'
   unfolding with_front
   all_made f p l a k =
       let h : length t ≤ length room = leb-true (length t) (length room) f in
@@ -450,11 +451,11 @@ module _ (memory s room : List ℕ) (n : ℕ) (t : Totals) (begun : ℕ) (e : be
   whole_fits : z ≡ leb (length (printed (ended_from (take n memory) (take 4294967295 s)))) (length room)
   whole_fits = rw (open_same memory n begun e m, part_same s most f) at g
 
-  pub go_short : z ≡ false → GoesOn memory n s room t NoRoom memory room
+  pub go_short : z ≡ false → GoesOn memory n s room t None memory room
   go_short h = nothing_made (sym whole_fits ∙ h)
 
   pub go_done : z ≡ true → (r : Ran) (memory' room' : List ℕ) → Runs memory begun (take most s) room t r memory' room'
-      → GoesOn memory n s room t (Made (record { filled = r.past.at; len = r.len; totals = r.past.totals })) memory' room'
+      → GoesOn memory n s room t (Some (record { filled = r.past.at; len = r.len; totals = r.past.totals })) memory' room'
   go_done h r memory' room' w =
       let q = take n memory in
       let part = take 4294967295 s in
@@ -472,11 +473,11 @@ module _ (memory room : List ℕ) (n : ℕ) (t : Totals) (begun : ℕ) (e : begu
   last_length : k ≡ length (finish_text (take n memory) t)
   last_length = rw (open_same memory n begun e m) at f
 
-  pub end_short : length room < k → EndsText memory n room t NoRoom room
+  pub end_short : length room < k → EndsText memory n room t None room
   end_short h = nothing_made (lt-leb (length (finish_text (take n memory) t)) (length room) (omega (arith, last_length)))
 
   pub end_done : k ≤ length room → (r : Progress) (room' : List ℕ) → Finishes (take begun memory) room t r room'
-      → EndsText memory n room t (Made (record { filled = r.at; len = 0; totals = r.totals })) room'
+      → EndsText memory n room t (Some (record { filled = r.at; len = 0; totals = r.totals })) room'
   end_done h r room' w =
       let x = rw (open_same memory n begun e m) at w in
       all_made (le-leb (length (finish_text (take n memory) t)) (length room) (omega (arith, last_length))) x.put refl x.totals refl

@@ -26,13 +26,6 @@ pub struct Advanced {
     pub totals: Totals,
 }
 
-// What was done; or nothing was, since the room is too short for what is printed.
-#[derive(Clone, Copy)]
-pub enum Advance {
-    Made(Advanced),
-    NoRoom,
-}
-
 // The place behind what was printed, and the totals so far.
 #[derive(Clone, Copy)]
 struct Progress {
@@ -195,7 +188,7 @@ pub fn go_on(
     text: &[u8],
     room: &mut [u8],
     totals: Totals,
-) -> Advance
+) -> Option<Advanced>
     ensures { GoesOn memory.old len text.now room.old totals result memory.new room.new }
 {
     let line: &mut [u8] = memory;
@@ -205,27 +198,32 @@ pub fn go_on(
         let ran = run(line, begun, &text[..most], room, totals);
         let past = ran.past;
         let after = past.totals;
-        return Advance::Made(Advanced {
+        return Some(Advanced {
             filled: past.at,
             len: ran.len,
             totals: after,
         });
     }
-    Advance::NoRoom
+    None
 }
 
 // The end of the text: the last line, where there is one, is answered and counted, and the totals follow. No line is open then.
-pub fn end_text(memory: &[u8; 4098], len: usize, room: &mut [u8], totals: Totals) -> Advance
+pub fn end_text(
+    memory: &[u8; 4098],
+    len: usize,
+    room: &mut [u8],
+    totals: Totals,
+) -> Option<Advanced>
     ensures { EndsText memory.now len room.old totals result room.new }
 {
     let line: &[u8] = memory;
     let begun = text::least(len, MOST_KEPT);
     if room.len() < finish_length(&line[..begun], totals) {
-        return Advance::NoRoom;
+        return None;
     }
     let done = finish(&line[..begun], room, totals);
     let after = done.totals;
-    Advance::Made(Advanced {
+    Some(Advanced {
         filled: done.at,
         len: 0,
         totals: after,

@@ -1,138 +1,93 @@
-// What follows `ptp=` in a ts-refclk value: the source, or the refusal of the first rule that is broken. Each text starts at the place `at` of the
-// whole value, and the places in it fit a usize.
+// What follows `ptp=` in a ts-refclk value: the source, or the refusal of the first rule that is broken.
 #![tactic(auto)]
 
-ghost use Rattle.std.specs.Prelude.{◌≡◌, ◌+◌, ◌^◌, ◌<◌, length};
+ghost use Rattle.std.specs.Prelude.{◌≡◌, false};
+ghost use Rattle.text.specs.Word.{word, same};
+ghost use Rattle.meaning.specs.Answer.{empty};
 ghost use Rattle.meaning.specs.Domain.{bare};
-ghost use Rattle.meaning.specs.ReferenceClock.{version_of, server_of, ptp_of};
-ghost use Rattle.ptp.specs.Private.AsAnswer.{version_answer, version_refusal, domain_answer, server_answer};
-ghost use Rattle.ptp.specs.AsAnswer.{ptp_answer};
+ghost use Rattle.meaning.specs.ReferenceClock.{version_of, gmid_of, server_of, ptp_of};
 
-use clock::{Eui64, OptDomain, Ptp, PtpDomain, PtpServer, PtpVersion, Refusal};
-use text::Place;
+use clock::{Eui64, Ptp, PtpDomain, PtpServer, PtpVersion, Refusal};
+use part::Part;
 
-#[derive(Clone, Copy)]
-enum VersionRead {
-    Accepted(PtpVersion),
-    Refused(Refusal),
-}
-
-#[derive(Clone, Copy)]
-enum DomainRead {
-    Accepted(PtpDomain),
-    Refused(Refusal),
-}
-
-#[derive(Clone, Copy)]
-enum ServerRead {
-    Accepted(PtpServer),
-    Refused(Refusal),
-}
-
-#[derive(Clone, Copy)]
-pub enum PtpRead {
-    Accepted(Ptp),
-    Refused(Refusal),
-}
-
-impl VersionRead {
-    // The refusal that is handed on: number 0 where the version was accepted.
-    fn refusal(self) -> Refusal
-        ensures { result ≡ version_refusal self }
-    {
-        match self {
-            VersionRead::Refused(r) => r,
-            VersionRead::Accepted(_) => Refusal::new(0, 0, 0),
-        }
-    }
-}
-
-fn read_version(p: &[u8], at: usize) -> VersionRead
-    ensures { version_answer result ≡ version_of at p.now }
+fn read_version(p: Part) -> Result<PtpVersion, Refusal>
+    ensures { result ≡ version_of p.entry.at p.entry.text.now }
 {
-    let n = p.len();
-    if n == 0 {
-        return VersionRead::Refused(Refusal::new(7, at, 0));
+    if p.text.is_empty() {
+        return Err(p.refused(7));
     }
-    if text::is_word(p, b"IEEE1588-2002") {
-        return VersionRead::Accepted(PtpVersion::Ieee1588_2002);
+    if text::is_word(p.text, b"IEEE1588-2002") {
+        return Ok(PtpVersion::Ieee1588_2002);
     }
-    if text::is_word(p, b"IEEE1588-2008") {
-        return VersionRead::Accepted(PtpVersion::Ieee1588_2008);
+    if text::is_word(p.text, b"IEEE1588-2008") {
+        return Ok(PtpVersion::Ieee1588_2008);
     }
-    if text::is_word(p, b"IEEE802.1AS-2011") {
-        return VersionRead::Accepted(PtpVersion::Ieee8021As_2011);
+    if text::is_word(p.text, b"IEEE802.1AS-2011") {
+        return Ok(PtpVersion::Ieee8021As_2011);
     }
-    VersionRead::Accepted(PtpVersion::Ext(Place { start: at, len: n }))
+    Ok(PtpVersion::Ext(p.place()))
 }
 
 // Of exactly 16 bytes a name, else a number. The one place where a domain is read.
-fn read_domain(p: &[u8], at: usize) -> DomainRead
-    ensures { domain_answer result ≡ bare.read at p.now }
+#[tactic(auto, using(crate::proofs::Laws::laws))]
+fn read_domain(p: Part) -> Result<PtpDomain, Refusal>
+    ensures { result ≡ bare.read p.entry.at p.entry.text.now }
 {
-    let n = p.len();
-    if n == 16 {
-        let name = Place { start: at, len: n };
-        return DomainRead::Accepted(PtpDomain::DomainName { name });
+    if p.text.len() == 16 {
+        return Ok(PtpDomain::DomainName { name: p.place() });
     }
-    let got = number::read_number(p, 127);
-    let number::Number::Value(x) = got else {
-        return DomainRead::Refused(Refusal::new(10, at, n));
-    };
-    let domain = x as u8;
-    DomainRead::Accepted(PtpDomain::DomainNumber(domain))
+    let refusal = p.refused(10);
+    let number = number::read_number(p.text, 127).map_err(|_| refusal)?;
+    Ok(PtpDomain::DomainNumber(number as u8))
 }
 
-// `traceable`, or the GMID up to the next `:` and the domain after it.
-fn read_server(p: &[u8], at: usize) -> ServerRead
-    requires { at + length p.now < 2 ^ 64 }
-    ensures { server_answer result ≡ server_of bare at p.now }
+#[tactic(auto, using(crate::proofs::Laws::laws))]
+fn read_gmid(p: Part) -> Result<Eui64, Refusal>
+    ensures { result ≡ gmid_of p.entry.at p.entry.text.now }
 {
-    let n = p.len();
-    if n == 0 {
-        return ServerRead::Refused(Refusal::new(8, at, 0));
-    }
-    if text::is_word(p, b"traceable") {
-        return ServerRead::Accepted(PtpServer::Traceable);
-    }
-    let i = search::find(p, b':');
-    let got = eui64::read_eui64(&p[..i]);
-    let eui64::Eui64Read::Id(id) = got else {
-        return ServerRead::Refused(Refusal::new(9, at, i));
+    let refusal = p.refused(9);
+    let id = eui64::read_eui64(p.text).map_err(|_| refusal)?;
+    Ok(Eui64 { id })
+}
+
+// The GMID up to the next `:`, and the domain behind that: of a text that is neither empty nor `traceable`.
+#[tactic(auto, using(crate::proofs::Laws::laws))]
+fn read_gmid_domain(p: Part) -> Result<PtpServer, Refusal>
+    requires { (empty p.text.now ≡ false) × (same p.text.now (word "traceable") ≡ false) }
+    ensures { result ≡ server_of bare p.entry.at p.entry.text.now }
+{
+    let Some((gmid, domain)) = p.split_once(b':') else {
+        let gmid = read_gmid(p)?;
+        return Ok(PtpServer::GmidDomain { gmid, domain: None });
     };
-    let gmid = Eui64 { id };
-    if n <= i {
-        let domain = OptDomain::NoDomain;
-        return ServerRead::Accepted(PtpServer::GmidDomain { gmid, domain });
+    let gmid = read_gmid(gmid)?;
+    let domain = Some(read_domain(domain)?);
+    Ok(PtpServer::GmidDomain { gmid, domain })
+}
+
+// `traceable`, or a GMID.
+fn read_server(p: Part) -> Result<PtpServer, Refusal>
+    ensures { result ≡ server_of bare p.entry.at p.entry.text.now }
+{
+    if p.text.is_empty() {
+        return Err(p.refused(8));
     }
-    let d = i + 1;
-    let start = at + d;
-    match read_domain(&p[d..], start) {
-        DomainRead::Accepted(domain) => {
-            let domain = OptDomain::SomeDomain(domain);
-            ServerRead::Accepted(PtpServer::GmidDomain { gmid, domain })
-        }
-        DomainRead::Refused(r) => ServerRead::Refused(r),
+    if text::is_word(p.text, b"traceable") {
+        return Ok(PtpServer::Traceable);
     }
+    read_gmid_domain(p)
 }
 
 // The version up to the first `:`, then the server. The text stands at the place 4, behind the `ptp=`.
-pub fn read_ptp(p: &[u8]) -> PtpRead
-    ensures { ptp_answer result ≡ ptp_of bare 4 p.now }
+#[tactic(auto, using(crate::proofs::Laws::laws))]
+pub fn read_ptp(p: &[u8]) -> Result<Ptp, Refusal>
+    ensures { result ≡ ptp_of bare 4 p.now }
 {
-    let n = p.len();
-    let i = search::find(p, b':');
-    if n <= i {
-        return PtpRead::Refused(Refusal::new(7, 4, 0));
-    }
-    let first = read_version(&p[..i], 4);
-    let VersionRead::Accepted(version) = first else {
-        return PtpRead::Refused(first.refusal());
+    let p = Part { text: p, at: 4 };
+    let Some((version, server)) = p.split_once(b':') else {
+        return Err(Refusal::new(7, p.at, 0));
     };
-    let d = i + 1;
-    let start = 4 + d;
-    match read_server(&p[d..], start) {
-        ServerRead::Accepted(server) => PtpRead::Accepted(Ptp { version, server }),
-        ServerRead::Refused(r) => PtpRead::Refused(r),
-    }
+    let version = read_version(version)?;
+    let server = read_server(server)?;
+    Ok(Ptp { version, server })
 }

@@ -1,3 +1,2 @@
 -- Numbers of four bytes.
 pub mod Quad
-pub mod Private

@@ -17,10 +17,9 @@ use Rattle.ipaddr.specs.Address.{hexdig, dec_octet, ipv4address, h16, h16colon, 
 use Rattle.meaning.specs.Answer.{extension_of}
 use Rattle.meaning.specs.Domain.{bare, bare_read}
 use Rattle.meaning.specs.ReferenceClock.{port_of, address_of, bracket_of, host_of, ntp_of, version_of, gmid_of, domain_of, server_of, ptp_of, clock_of}
-use Rattle.meaning.specs.ReferenceClock.{as_reference_clock_read}
 use Rattle.meaning.specs.Meaning.{ref_meaning}
 use Rattle.meaning.proofs.Rows.{short, ref_plain, each_where}
-use Rattle.equal.specs.Private.Flat.{clock_says, same_numbers, same_behind, alike_flat}
+use Rattle.equal.specs.Private.Flat.{same_numbers, same_behind, alike_flat}
 use Rattle.equal.specs.Private.Test.{alike}
 use Rattle.ipaddr.specs.Number.{octets_from, octets_of, paired, groups_from, side_groups, groups_of, ip_address_of}
 use Rattle.hosts.specs.Server.{lower, folded, one_server}
@@ -30,10 +29,10 @@ use Rattle.questions.specs.Governing.{gmid_place, name_place, read_place, clock_
 use Rattle.questions.specs.Examples.{of_pair, pairs, places}
 
 abbrev plain_same : List ℕ → List ℕ → Bool
-plain_same v w = both_alike v (as_reference_clock_read (clock_of bare v)) w (as_reference_clock_read (clock_of bare w))
+plain_same v w = both_alike v (clock_of bare v) w (clock_of bare w)
 
 abbrev plain_place : List ℕ → Place
-plain_place v = read_place v (as_reference_clock_read (clock_of bare v))
+plain_place v = read_place v (clock_of bare v)
 
 abbrev short_pair : List ℕ × List ℕ → Bool
 short_pair p = short p.0 && short p.1
@@ -52,7 +51,7 @@ place_plain v h = rw (ref_plain v h)
 pub pairs_hold : Each (of_pair same_clock) pairs
 unfolding clock_of ntp_of host_of bracket_of address_of port_of ptp_of version_of server_of gmid_of domain_of bare_read extension_of ref_meaning before before_pair
     through_last same ends_in bytes_at number_of digits_of all_digits value_from hex_digit eui64_of segments_of segment_of high_digit cut_at_each ip_address
-    ipv6address ipv4address ls32 double_colon h16colon h16 dec_octet hexdig nothing range ◌or◌ ◌then◌ times upto clock_says same_numbers same_behind
+    ipv6address ipv4address ls32 double_colon h16colon h16 dec_octet hexdig nothing range ◌or◌ ◌then◌ times upto same_numbers same_behind
     alike_flat alike hosts_alike one_server folded lower ip_address_of octets_from octets_of paired groups_from side_groups groups_of
 pairs_hold = each_where (of_pair same_clock) (of_pair plain_same) short_pair same_plain pairs refl refl
 

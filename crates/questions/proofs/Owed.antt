@@ -1,10 +1,10 @@
 -- The same-clock question is an equivalence on accepted values and means records that are equal but for hosts; the GMID stands at its place; one part
 -- governs. Assumes nothing.
+use Rattle.std.specs.Prelude.{Result, Option, Ok, Err, Some, None}
 use Prim.Native.Nat.{ℕ, ◌+◌}
 use mathlib.Core.Path.{◌≡◌, refl, sym, ap, ◌∙◌}
 use mathlib.Core.List.{List}
 use mathlib.Core.Bool.{Bool, true, false, cond}
-use mathlib.Core.Option.{Option, none, some}
 use native.Mathlib.Omega.{arith}
 use lib.Dec.{eqb, ltb}
 use lib.ListN.{length, take, drop}
@@ -15,19 +15,15 @@ use Rattle.text.proofs.Bools.{by_bool, clash}
 use Rattle.text.proofs.Cuts.{before_append}
 use Rattle.text.proofs.Parts.{part_settled}
 use Rattle.eui64.specs.Eui64.{eui64_of}
-use Rattle.eui64.specs.declared.Eui64Read.TheVariants.{Id}
 use Rattle.clock.specs.Refusal.{refusal}
 use Rattle.clock.specs.Records as made
 use Rattle.clock.specs.declared.Eui64.{Eui64}
-use Rattle.clock.specs.declared.OptDomain.{OptDomain}
 use Rattle.clock.specs.declared.Ptp.{Ptp}
 use Rattle.clock.specs.declared.PtpServer.TheVariants.{GmidDomain}
 use Rattle.clock.specs.declared.PrivateSource.TheVariants as private
 use Rattle.clock.specs.declared.ReferenceClock.{ReferenceClock}
 use Rattle.clock.specs.declared.ReferenceClock.TheVariants as clock
-use Rattle.clock.specs.declared.ReferenceClockRead.{ReferenceClockRead}
-use Rattle.clock.specs.declared.ReferenceClockRead.TheVariants.{Accepted, Refused}
-use Rattle.meaning.specs.Answer.{Answer, accepted, ◌>>=◌, empty, extension_of}
+use Rattle.meaning.specs.Answer.{Answer, ◌>>=◌, empty, extension_of}
 use Rattle.meaning.specs.Domain.{bare}
 use Rattle.meaning.specs.ReferenceClock.{gmid_of, domain_of, version_of, server_of, ntp_of, ptp_of, clock_of, reference_clock_of, read_reference_clock}
 use Rattle.meaning.specs.Meaning.{RefMeaning, ref_meaning}
@@ -44,18 +40,18 @@ use Rattle.questions.specs.Private.Test.{both_alike, same_clock}
 use Rattle.questions.specs.Governing.{gmid_place, clock_place, governor, governing_place, PlaceGoverns, GoverningSettled}
 use Rattle.questions.specs.Owed.{Classes, EqualIsSame, host_in, without_host, SameIsEqualButHosts, GmidThere}
 use Rattle.questions.specs.Private.Test.{SameClockDecides}
-use Rattle.questions.proofs.Laws.{first_refused, second_refused, both_accepted}
+use Rattle.questions.proofs.Laws.{both_accepted}
+use Rattle.clock.specs.declared.Refusal.{Refusal}
+use Rattle.clock.specs.declared.PtpDomain.{PtpDomain}
 
 pub same_clock_decides : SameClockDecides
 unfolding same_clock
 same_clock_decides v w = go (read_reference_clock v) (read_reference_clock w) refl refl
   where
-    go : (x y : ReferenceClockRead) → x ≡ read_reference_clock v → y ≡ read_reference_clock w → Decides (both_alike v x w y) (SameClock v w)
-    go (Accepted c) (Accepted d) e f =
-        both_accepted v w (Accepted c) e c refl (Accepted d) f d refl _
-        (alike_decides hosts_alike classes.of_hosts (ref_meaning v c) (ref_meaning w d))
-    go (Accepted c) (Refused r) e f = second_refused v w (Accepted c) e c refl (Refused r) f r refl
-    go (Refused r) y e f = first_refused v w (Refused r) e r refl
+    go : (x y : Result ReferenceClock Refusal) → x ≡ read_reference_clock v → y ≡ read_reference_clock w → Decides (both_alike v x w y) (SameClock v w)
+    go (Ok c) (Ok d) e f = both_accepted v w c d e f _ (alike_decides hosts_alike classes.of_hosts (ref_meaning v c) (ref_meaning w d))
+    go (Ok c) (Err r) e f = record { right = λ h. clash (cc); found = λ s. clash (cc (f, s.is_second)) }
+    go (Err r) y e f = record { right = λ h. clash (cc); found = λ s. clash (cc (e, s.is_first)) }
 
 like : Equivalence (OneClock hosts_alike)
 like = classes.of_clocks hosts_alike classes.of_hosts
@@ -98,7 +94,7 @@ same_else : (m n : RefMeaning) → OneClock hosts_alike m n → without_host m �
 same_else m n (equal e) = ap without_host e
 same_else m n (servers h g port e a b) = rw (a, b) refl
 
-same_hosts : (m n : RefMeaning) → OneClock hosts_alike m n → (h g : List ℕ) → host_in m ≡ some h → host_in n ≡ some g → hosts_alike h g ≡ true
+same_hosts : (m n : RefMeaning) → OneClock hosts_alike m n → (h g : List ℕ) → host_in m ≡ Some h → host_in n ≡ Some g → hosts_alike h g ≡ true
 same_hosts m n (equal e) h g eh eg =
     let k : h ≡ g = cc (sym eh ∙ ap host_in e ∙ eg) in
     rw k (classes.of_hosts.to_self g)
@@ -109,7 +105,7 @@ same_hosts m n (servers i j port e a b) h g eh eg =
 
 -- a record has a host, or loses nothing with it
 data HostView (m : RefMeaning) : Type 0 where
-  no_host : host_in m ≡ none → without_host m ≡ m → HostView m
+  no_host : host_in m ≡ None → without_host m ≡ m → HostView m
   a_host : (h : List ℕ) (port : Option ℕ) → m ≡ means.ntp_host h port → HostView m
 
 host_view : (m : RefMeaning) → HostView m
@@ -126,7 +122,7 @@ host_view (means.ref_ext name value) = no_host refl refl
 
 -- and by nothing more
 one_of_both : (m n : RefMeaning) → without_host m ≡ without_host n
-    → ((h g : List ℕ) → host_in m ≡ some h → host_in n ≡ some g → hosts_alike h g ≡ true) → OneClock hosts_alike m n
+    → ((h g : List ℕ) → host_in m ≡ Some h → host_in n ≡ Some g → hosts_alike h g ≡ true) → OneClock hosts_alike m n
 one_of_both m n e f = go (host_view m) (host_view n)
   where
     go : HostView m → HostView n → OneClock hosts_alike m n
@@ -159,29 +155,29 @@ same_is_equal_but_hosts v w = (
 )
 
 -- the server's GMID is what stands before its first colon
-server_gmid : (at : ℕ) (t : List ℕ) (g : Eui64) (o : OptDomain) → server_of bare at t ≡ accepted (GmidDomain g o)
-    → eui64_of (take (before 58 t) t) ≡ Id g.id
+server_gmid : (at : ℕ) (t : List ℕ) (g : Eui64) (o : Option PtpDomain) → server_of bare at t ≡ Ok (GmidDomain g o)
+    → eui64_of (take (before 58 t) t) ≡ Ok g.id
 unfolding server_of gmid_of
 server_gmid at t g o h =
     by_bool (empty t) (λ a. clash (cc (simp a at h)))
     (λ a. by_bool (same t (word "traceable")) (λ b. clash (cc (simp (a, b) at h)))
     (λ b.
     let i = before 58 t in
-    let x = through (gmid_of at (take i t)) (λ g. domain_of bare i at t >>= λ d. accepted (GmidDomain g d)) (GmidDomain g o) (simp (a, b) at h) in
+    let x = through (gmid_of at (take i t)) (λ g. domain_of bare i at t >>= λ d. Ok (GmidDomain g d)) (GmidDomain g o) (simp (a, b) at h) in
     let y = was_made (domain_of bare i at t) (λ d. GmidDomain x.value d) (GmidDomain g o) x.onward in
     let k : x.value ≡ g = cc y.made in
     rw k at (sym (was_gmid (eui64_of (take i t)) (refusal 9 at (length (take i t))) x.value x.is))))
 
 -- the server is what stands behind the version's colon
-ptp_server_lem : (at : ℕ) (s : List ℕ) (p : Ptp) → ptp_of bare at s ≡ accepted p
-    → server_of bare (at + (before 58 s + 1)) (drop (before 58 s + 1) s) ≡ accepted p.server
+ptp_server_lem : (at : ℕ) (s : List ℕ) (p : Ptp) → ptp_of bare at s ≡ Ok p
+    → server_of bare (at + (before 58 s + 1)) (drop (before 58 s + 1) s) ≡ Ok p.server
 unfolding ptp_of
 ptp_server_lem at s p h =
     let i = before 58 s in
     let server = server_of bare (at + (i + 1)) (drop (i + 1) s) in
     by_bool (ltb i (length s))
     (λ e.
-    let x = through (version_of at (take i s)) (λ v. server >>= λ w. accepted (made.ptp v w)) p (simp e at h) in
+    let x = through (version_of at (take i s)) (λ v. server >>= λ w. Ok (made.ptp v w)) p (simp e at h) in
     let y = was_made server (λ w. made.ptp x.value w) p x.onward in
     rw y.made y.is)
     (λ e. clash (cc (simp e at h)))
@@ -198,16 +194,16 @@ is_ptp (clock.Ext e) = false
 
 -- a word that is no PTP source was not the value
 pass : (t : Bool) (c d : ReferenceClock) (x : Answer ReferenceClock) → is_ptp c ≡ false → is_ptp d ≡ true
-    → cond t (accepted c) x ≡ accepted d → x ≡ accepted d
+    → cond t (Ok c) x ≡ Ok d → x ≡ Ok d
 pass true c d x e f h = let k : c ≡ d = cc in clash (cc (e, f, k))
 pass false c d x e f h = h
 
 -- a PTP source is read of what stands behind "ptp="
 record PtpValue (v : List ℕ) (p : Ptp) : Type 0 where
   pub begins : starts (word "ptp=") v ≡ true
-  pub source : ptp_of bare 4 (drop 4 v) ≡ accepted p
+  pub source : ptp_of bare 4 (drop 4 v) ≡ Ok p
 
-ptp_value : (v : List ℕ) (p : Ptp) → clock_of bare v ≡ accepted (clock.Ptp p) → PtpValue v p
+ptp_value : (v : List ℕ) (p : Ptp) → clock_of bare v ≡ Ok (clock.Ptp p) → PtpValue v p
 unfolding clock_of
 ptp_value v p h =
     by_bool (starts (word "ntp=") v)

@@ -1,6 +1,6 @@
 -- Governing clock: the media-level value governs unless it has length 0, also where it is refused. The answer is a part of the value that governs:
 -- the host, the GMID text, or the whole value where there is neither; of a refused value its first zero bytes.
-use Rattle.std.specs.Prelude.{ℕ, ◌+◌, List, cond, eqb, length, drop}
+use Rattle.std.specs.Prelude.{ℕ, ◌+◌, List, cond, eqb, length, drop, Result, Ok, Err}
 use Rattle.text.specs.Find.{before}
 use Rattle.text.specs.Place.{place, Lent, PartAt, OnePart}
 use Rattle.text.specs.declared.Place.{Place}
@@ -10,12 +10,11 @@ use Rattle.clock.specs.declared.PtpServer.{PtpServer}
 use Rattle.clock.specs.declared.PtpServer.TheVariants as source
 use Rattle.clock.specs.declared.ReferenceClock.{ReferenceClock}
 use Rattle.clock.specs.declared.ReferenceClock.TheVariants as clock
-use Rattle.clock.specs.declared.ReferenceClockRead.{ReferenceClockRead}
-use Rattle.clock.specs.declared.ReferenceClockRead.TheVariants.{Accepted, Refused}
 use Rattle.meaning.specs.ReferenceClock.{read_reference_clock}
 use Rattle.questions.specs.declared.Level.{Level}
 use Rattle.questions.specs.declared.Level.TheVariants.{Session, Media}
 use Rattle.questions.specs.declared.GoverningPlace.{GoverningPlace}
+use Rattle.clock.specs.declared.Refusal.{Refusal}
 
 -- the value v, of which c is the record
 module _ (v : List ℕ) where
@@ -47,9 +46,9 @@ module _ (v : List ℕ) where
   name_place (clock.Private p) = whole
   name_place (clock.Ext e) = whole
 
-  abbrev pub read_place : ReferenceClockRead → Place
-  read_place (Accepted c) = name_place c
-  read_place (Refused r) = place 0 0
+  abbrev pub read_place : Result ReferenceClock Refusal → Place
+  read_place (Ok c) = name_place c
+  read_place (Err r) = place 0 0
 
   unfoldable pub clock_place : Place
   clock_place = read_place (read_reference_clock v)

@@ -4,106 +4,88 @@
 ghost use Rattle.std.specs.Prelude.{◌≡◌, ◌≤◌, length};
 ghost use Rattle.equal.specs.Decides.{Decides};
 ghost use Rattle.questions.specs.SameClock.{SameClock};
-ghost use Rattle.questions.specs.Governing.{whole, gmid_place, ntp_name, ptp_name, name_place, clock_place, Governing, governing_place};
+ghost use Rattle.questions.specs.Governing.{gmid_place, name_place, clock_place, Governing, governing_place};
 ghost use Rattle.text.specs.Place.{PartAt};
 
-use clock::{NtpServerAddr, PtpServer, ReferenceClock, ReferenceClockRead};
+use clock::{Ntp, NtpServerAddr, Ptp, PtpServer, ReferenceClock};
 use text::Place;
 
 // The level of a session text that a value stands at.
-#[derive(Clone, Copy)]
+#[derive(Clone, Copy, Debug, PartialEq, Eq)]
 pub enum Level {
     Session,
     Media,
 }
 
 // Which value governs, and the place in it of the part that names the clock.
-#[derive(Clone, Copy)]
+#[derive(Clone, Copy, Debug, PartialEq, Eq)]
 pub struct GoverningPlace {
     pub level: Level,
     pub place: Place,
 }
 
 // Whether two values name the same clock.
+#[tactic(auto, using(crate::proofs::Laws::both_accepted))]
 pub fn same_clock(a: &[u8], b: &[u8]) -> bool
     ensures { Decides result (SameClock a.now b.now) }
 {
-    let first = refclk::read_reference_clock(a);
-    let ReferenceClockRead::Accepted(c) = first else {
-        return false;
-    };
-    let second = refclk::read_reference_clock(b);
-    let ReferenceClockRead::Accepted(d) = second else {
-        return false;
-    };
-    equal::same_reference_clocks(a, c, b, d)
-}
-
-fn all_of(v: &[u8]) -> Place
-    ensures { result ≡ whole v.now }
-{
-    Place {
-        start: 0,
-        len: v.len(),
+    match (
+        refclk::read_reference_clock(a),
+        refclk::read_reference_clock(b),
+    ) {
+        (Ok(c), Ok(d)) => equal::same_reference_clocks(a, c, b, d),
+        _ => false,
     }
 }
 
 // Behind the first `:`, up to the next or the end.
+#[tactic(auto, using(text::proofs::Cuts::before_le), unfolding(crate::specs::Governing::gmid_place, text::specs::Place::bytes_at))]
 fn gmid_place(v: &[u8]) -> Place
     requires { length v.now ≤ 1024 }
     ensures { result ≡ gmid_place v.now }
 {
-    let n = v.len();
-    let colon = search::find(v, b':');
-    let start = colon + 1;
-    let len = search::find(text::part(v, Place { start, len: n }), b':');
+    let start = search::find(v, b':') + 1;
+    let rest = Place {
+        start,
+        len: v.len(),
+    };
+    let len = search::find(text::part(v, rest), b':');
     Place { start, len }
 }
 
-fn ntp_name(v: &[u8], server: NtpServerAddr) -> Place
-    ensures { result ≡ ntp_name v.now server }
-{
-    match server {
-        NtpServerAddr::HostPort { hostname, port: _ } => hostname,
-        NtpServerAddr::Traceable => all_of(v),
-    }
-}
-
-fn ptp_name(v: &[u8], server: PtpServer) -> Place
-    requires { length v.now ≤ 1024 }
-    ensures { result ≡ ptp_name v.now server }
-{
-    match server {
-        PtpServer::GmidDomain { gmid: _, domain: _ } => gmid_place(v),
-        PtpServer::Traceable => all_of(v),
-    }
-}
-
 // The host, the GMID text, or the whole value where there is neither.
+#[tactic(auto, unfolding(crate::specs::Governing::name_place))]
 fn name_place(v: &[u8], clock: ReferenceClock) -> Place
     requires { length v.now ≤ 1024 }
     ensures { result ≡ name_place v.now clock }
 {
     match clock {
-        ReferenceClock::Ntp(n) => {
-            let server = n.server;
-            ntp_name(v, server)
-        }
-        ReferenceClock::Ptp(p) => {
-            let server = p.server;
-            ptp_name(v, server)
-        }
-        _ => all_of(v),
+        ReferenceClock::Ntp(
+            Ntp {
+                server: NtpServerAddr::HostPort { hostname, .. },
+            },
+        ) => hostname,
+        ReferenceClock::Ptp(
+            Ptp {
+                server: PtpServer::GmidDomain { .. },
+                ..
+            },
+        ) => gmid_place(v),
+        _ => Place {
+            start: 0,
+            len: v.len(),
+        },
     }
 }
 
 // Of a refused value its first zero bytes.
+#[tactic(auto, using(crate::proofs::Laws::accepted_short), unfolding(crate::specs::Governing::clock_place))]
 fn clock_place(v: &[u8]) -> Place
     ensures { result ≡ clock_place v.now }
 {
     match refclk::read_reference_clock(v) {
-        ReferenceClockRead::Accepted(clock) => name_place(v, clock),
-        ReferenceClockRead::Refused(_) => Place { start: 0, len: 0 },
+        Ok(clock) => name_place(v, clock),
+        Err(_) => Place { start: 0, len: 0 },
     }
 }
 
@@ -115,27 +97,31 @@ fn clock_part(v: &[u8]) -> &[u8]
 }
 
 // The media-level value governs unless it has length 0, also where it is refused.
+#[tactic(auto, unfolding(crate::specs::Governing::governor))]
 pub fn governing_clock<'a>(session: &'a [u8], media: &'a [u8]) -> &'a [u8]
     ensures { Governing session.entry media.entry result }
 {
-    if media.len() == 0 {
-        return clock_part(session);
+    if media.is_empty() {
+        clock_part(session)
+    } else {
+        clock_part(media)
     }
-    clock_part(media)
 }
 
 // Where that part stands.
+#[tactic(auto, unfolding(crate::specs::Governing::governing_place))]
 pub fn governing_place(session: &[u8], media: &[u8]) -> GoverningPlace
     ensures { result ≡ governing_place session.now media.now }
 {
-    if 0 < media.len() {
-        return GoverningPlace {
+    if media.is_empty() {
+        GoverningPlace {
+            level: Level::Session,
+            place: clock_place(session),
+        }
+    } else {
+        GoverningPlace {
             level: Level::Media,
             place: clock_place(media),
-        };
-    }
-    GoverningPlace {
-        level: Level::Session,
-        place: clock_place(session),
+        }
     }
 }

@@ -1,4 +1,5 @@
 -- One law for each way out of the functions that note a mediaclk record. Assumes nothing.
+use Rattle.std.specs.Prelude.{Option, Some, None}
 use Prim.Native.Nat.{ℕ}
 use mathlib.Core.Path.{◌≡◌}
 use mathlib.Core.List.{List}
@@ -8,13 +9,7 @@ use Rattle.text.specs.Word.{word}
 use Rattle.number.specs.Decimal.{decimal}
 use Rattle.number.specs.Hex.{hex_capitals}
 use Rattle.clock.specs.declared.Eui64.{Eui64}
-use Rattle.mediarecord.specs.declared.OptId.{OptId}
-use Rattle.mediarecord.specs.declared.OptId.TheVariants.{NoId, SomeId}
 use Rattle.mediarecord.specs.declared.MediaClockId.{MediaClockId}
-use Rattle.mediarecord.specs.declared.OptOffset.{OptOffset}
-use Rattle.mediarecord.specs.declared.OptOffset.TheVariants.{NoOffset, SomeOffset}
-use Rattle.mediarecord.specs.declared.OptRate.{OptRate}
-use Rattle.mediarecord.specs.declared.OptRate.TheVariants.{NoRate, SomeRate}
 use Rattle.mediarecord.specs.declared.Rate.{Rate}
 use Rattle.mediarecord.specs.declared.Direct.{Direct}
 use Rattle.mediarecord.specs.declared.MediaClockExt.{MediaClockExt}
@@ -34,31 +29,31 @@ module _ {l : List ℕ} {at last : ℕ} {r : List ℕ} where
     pub kind_id : src ≡ false → Put 3 l at (word "id ") last r → Put 4 l at (cond src (word "src ") (word "id ")) last r
     kind_id e f = rw e (put_wider f (omega arith))
 
-  module _ (x : OptId) where
-    pub id_none : x ≡ NoId → Put 1 l at (word "-") last r → Put 45 l at (id_note x) last r
+  module _ (x : Option MediaClockId) where
+    pub id_none : x ≡ None → Put 1 l at (word "-") last r → Put 45 l at (id_note x) last r
     id_none e f = rw e (put_wider f (omega arith))
 
-    pub id_some : (d : MediaClockId) {next : ℕ} {m : List ℕ} → x ≡ SomeId d → Put 4 l at (cond d.src (word "src ") (word "id ")) next m
+    pub id_some : (d : MediaClockId) {next : ℕ} {m : List ℕ} → x ≡ Some d → Put 4 l at (cond d.src (word "src ") (word "id ")) next m
         → Put 41 m next (place_note d.tag) last r → Put 45 l at (id_note x) last r
     id_some d e f g = rw e (put_then f g)
 
   -- `put_offset`, `put_rate`, `put_direct`
-  module _ (x : OptOffset) where
-    pub offset_none : x ≡ NoOffset → Put 1 l at (word "-") last r → Put 10 l at (offset_note x) last r
+  module _ (x : Option ℕ) where
+    pub offset_none : x ≡ None → Put 1 l at (word "-") last r → Put 10 l at (offset_note x) last r
     offset_none e f = rw e (put_wider f (omega arith))
 
-    pub offset_some : (n : ℕ) → x ≡ SomeOffset n → Put 10 l at (decimal n) last r → Put 10 l at (offset_note x) last r
+    pub offset_some : (n : ℕ) → x ≡ Some n → Put 10 l at (decimal n) last r → Put 10 l at (offset_note x) last r
     offset_some n e f = rw e f
 
-  module _ (x : OptRate) where
-    pub rate_none : x ≡ NoRate → Put 1 l at (word "-") last r → Put 21 l at (rate_note x) last r
+  module _ (x : Option Rate) where
+    pub rate_none : x ≡ None → Put 1 l at (word "-") last r → Put 21 l at (rate_note x) last r
     rate_none e f = rw e (put_wider f (omega arith))
 
-    pub rate_some : (q : Rate) {a b : ℕ} {m n : List ℕ} → x ≡ SomeRate q → Put 10 l at (decimal q.numerator) a m → Put 1 m a (word "/") b n
+    pub rate_some : (q : Rate) {a b : ℕ} {m n : List ℕ} → x ≡ Some q → Put 10 l at (decimal q.numerator) a m → Put 1 m a (word "/") b n
         → Put 10 n b (decimal q.denominator) last r → Put 21 l at (rate_note x) last r
     rate_some q e f g h = rw e (put_then (put_then f g) h)
 
-  pub direct_put : (o : OptOffset) (q : OptRate) {a b c : ℕ} {k m n : List ℕ} → Put 7 l at (word "direct ") a k → Put 10 k a (offset_note o) b m
+  pub direct_put : (o : Option ℕ) (q : Option Rate) {a b c : ℕ} {k m n : List ℕ} → Put 7 l at (word "direct ") a k → Put 10 k a (offset_note o) b m
       → Put 1 m b (word " ") c n → Put 21 n c (rate_note q) last r → Put 39 l at (direct_note o q) last r
   direct_put o q f g h i = put_then (put_then (put_then f g) h) i
 

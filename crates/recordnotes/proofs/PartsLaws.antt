@@ -1,4 +1,5 @@
 -- One law for each way out of the functions that note what both attributes share. Assumes nothing.
+use Rattle.std.specs.Prelude.{Option, Some, None}
 use Prim.Native.Nat.{ℕ}
 use mathlib.Core.Path.{◌≡◌}
 use mathlib.Core.List.{List}
@@ -6,8 +7,6 @@ use native.Mathlib.Omega.{arith}
 use Rattle.text.specs.Word.{word}
 use Rattle.text.specs.declared.Place.{Place}
 use Rattle.number.specs.Decimal.{decimal}
-use Rattle.clock.specs.declared.OptValue.{OptValue}
-use Rattle.clock.specs.declared.OptValue.TheVariants.{NoValue, SomeValue}
 use Rattle.room.specs.Put.{Put}
 use Rattle.room.proofs.Laws.{put_then, put_wider}
 use Rattle.recordnotes.specs.Notation.{place_note, value_note, extension_note}
@@ -19,15 +18,15 @@ module _ {l : List ℕ} {at last : ℕ} {r : List ℕ} where
   place_put p f g h = put_then (put_then f g) h
 
   -- `put_value`
-  module _ (x : OptValue) where
-    pub value_none : x ≡ NoValue → Put 1 l at (word "-") last r → Put 41 l at (value_note x) last r
+  module _ (x : Option Place) where
+    pub value_none : x ≡ None → Put 1 l at (word "-") last r → Put 41 l at (value_note x) last r
     value_none e f = rw e (put_wider f (omega arith))
 
-    pub value_some : (p : Place) → x ≡ SomeValue p → Put 41 l at (place_note p) last r → Put 41 l at (value_note x) last r
+    pub value_some : (p : Place) → x ≡ Some p → Put 41 l at (place_note p) last r → Put 41 l at (value_note x) last r
     value_some p e f = rw e f
 
   -- `put_extension`
-  pub extension_put : (name : Place) (x : OptValue) {a b c : ℕ} {k m n : List ℕ} → Put 4 l at (word "ext ") a k → Put 41 k a (place_note name) b m
+  pub extension_put : (name : Place) (x : Option Place) {a b c : ℕ} {k m n : List ℕ} → Put 4 l at (word "ext ") a k → Put 41 k a (place_note name) b m
       → Put 1 m b (word " ") c n → Put 41 n c (value_note x) last r → Put 87 l at (extension_note name x) last r
   extension_put name x f g h i = put_then (put_then (put_then f g) h) i
 

@@ -1,4 +1,5 @@
 -- One law for each way out of the functions that note a ts-refclk record. Assumes nothing.
+use Rattle.std.specs.Prelude.{Option, Some, None}
 use Prim.Native.Nat.{ℕ}
 use mathlib.Core.Path.{◌≡◌}
 use mathlib.Core.List.{List}
@@ -8,10 +9,6 @@ use Rattle.text.specs.declared.Place.{Place}
 use Rattle.number.specs.Decimal.{decimal}
 use Rattle.number.specs.Hex.{hex_capitals}
 use Rattle.clock.specs.declared.Eui64.{Eui64}
-use Rattle.clock.specs.declared.OptPort.{OptPort}
-use Rattle.clock.specs.declared.OptPort.TheVariants.{NoPort, SomePort}
-use Rattle.clock.specs.declared.OptDomain.{OptDomain}
-use Rattle.clock.specs.declared.OptDomain.TheVariants.{NoDomain, SomeDomain}
 use Rattle.clock.specs.declared.NtpServerAddr.{NtpServerAddr}
 use Rattle.clock.specs.declared.NtpServerAddr.TheVariants as server
 use Rattle.clock.specs.declared.PtpVersion.{PtpVersion}
@@ -34,11 +31,11 @@ use Rattle.recordnotes.specs.Notation.{opt_domain_note, server_note, ptp_note, p
 
 module _ {l : List ℕ} {at last : ℕ} {r : List ℕ} where
   -- `put_port`
-  module _ (x : OptPort) where
-    pub port_none : x ≡ NoPort → Put 1 l at (word "-") last r → Put 10 l at (port_note x) last r
+  module _ (x : Option ℕ) where
+    pub port_none : x ≡ None → Put 1 l at (word "-") last r → Put 10 l at (port_note x) last r
     port_none e f = rw e (put_wider f (omega arith))
 
-    pub port_some : (n : ℕ) → x ≡ SomePort n → Put 10 l at (decimal n) last r → Put 10 l at (port_note x) last r
+    pub port_some : (n : ℕ) → x ≡ Some n → Put 10 l at (decimal n) last r → Put 10 l at (port_note x) last r
     port_some n e f = rw e f
 
   -- `put_ntp`
@@ -46,7 +43,7 @@ module _ {l : List ℕ} {at last : ℕ} {r : List ℕ} where
     pub ntp_traceable_lem : x ≡ server.Traceable → Put 13 l at (word "ntp traceable") last r → Put 56 l at (ntp_note x) last r
     ntp_traceable_lem e f = rw e (put_wider f (omega arith))
 
-    pub ntp_host_lem : (p : Place) (port : OptPort) {a b c : ℕ} {k m n : List ℕ} → x ≡ server.HostPort p port → Put 4 l at (word "ntp ") a k
+    pub ntp_host_lem : (p : Place) (port : Option ℕ) {a b c : ℕ} {k m n : List ℕ} → x ≡ server.HostPort p port → Put 4 l at (word "ntp ") a k
         → Put 41 k a (place_note p) b m → Put 1 m b (word " ") c n → Put 10 n c (port_note port) last r → Put 56 l at (ntp_note x) last r
     ntp_host_lem p port e f g h i = rw e (put_then (put_then (put_then f g) h) i)
 
@@ -74,11 +71,11 @@ module _ {l : List ℕ} {at last : ℕ} {r : List ℕ} where
         → Put 46 l at (domain_note x) last r
     domain_number n e f g = rw e (put_wider (put_then f g) (omega arith))
 
-  module _ (x : OptDomain) where
-    pub domain_none : x ≡ NoDomain → Put 1 l at (word "-") last r → Put 46 l at (opt_domain_note x) last r
+  module _ (x : Option PtpDomain) where
+    pub domain_none : x ≡ None → Put 1 l at (word "-") last r → Put 46 l at (opt_domain_note x) last r
     domain_none e f = rw e (put_wider f (omega arith))
 
-    pub domain_some : (d : PtpDomain) → x ≡ SomeDomain d → Put 46 l at (domain_note d) last r → Put 46 l at (opt_domain_note x) last r
+    pub domain_some : (d : PtpDomain) → x ≡ Some d → Put 46 l at (domain_note d) last r → Put 46 l at (opt_domain_note x) last r
     domain_some d e f = rw e f
 
   -- `put_server`
@@ -86,7 +83,7 @@ module _ {l : List ℕ} {at last : ℕ} {r : List ℕ} where
     pub server_traceable : x ≡ source.Traceable → Put 9 l at (word "traceable") last r → Put 63 l at (server_note x) last r
     server_traceable e f = rw e (put_wider f (omega arith))
 
-    pub server_gmid : (g : Eui64) (d : OptDomain) {a b : ℕ} {m n : List ℕ} → x ≡ source.GmidDomain g d → Put 16 l at (hex_capitals 16 g.id) a m
+    pub server_gmid : (g : Eui64) (d : Option PtpDomain) {a b : ℕ} {m n : List ℕ} → x ≡ source.GmidDomain g d → Put 16 l at (hex_capitals 16 g.id) a m
         → Put 1 m a (word " ") b n → Put 46 n b (opt_domain_note d) last r → Put 63 l at (server_note x) last r
     server_gmid g d e f h i = rw e (put_then (put_then f h) i)
 

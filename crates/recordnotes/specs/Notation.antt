@@ -1,21 +1,9 @@
 -- A record as it is noted in a line: its kinds and numbers, and its places as START+LEN in the value read; "-" for what is absent.
-use Rattle.std.specs.Prelude.{ℕ, List, ◌++◌, cond}
+use Rattle.std.specs.Prelude.{ℕ, List, ◌++◌, cond, Option, Some, None}
 use Rattle.text.specs.Word.{word}
 use Rattle.text.specs.declared.Place.{Place}
 use Rattle.number.specs.Decimal.{decimal}
 use Rattle.number.specs.Hex.{hex_capitals}
-use Rattle.clock.specs.declared.OptPort.{OptPort}
-use Rattle.clock.specs.declared.OptPort.TheVariants.{NoPort, SomePort}
-use Rattle.clock.specs.declared.OptDomain.{OptDomain}
-use Rattle.clock.specs.declared.OptDomain.TheVariants.{NoDomain, SomeDomain}
-use Rattle.clock.specs.declared.OptValue.{OptValue}
-use Rattle.clock.specs.declared.OptValue.TheVariants.{NoValue, SomeValue}
-use Rattle.mediarecord.specs.declared.OptId.{OptId}
-use Rattle.mediarecord.specs.declared.OptId.TheVariants.{NoId, SomeId}
-use Rattle.mediarecord.specs.declared.OptOffset.{OptOffset}
-use Rattle.mediarecord.specs.declared.OptOffset.TheVariants.{NoOffset, SomeOffset}
-use Rattle.mediarecord.specs.declared.OptRate.{OptRate}
-use Rattle.mediarecord.specs.declared.OptRate.TheVariants.{NoRate, SomeRate}
 use Rattle.clock.specs.declared.NtpServerAddr.{NtpServerAddr}
 use Rattle.clock.specs.declared.NtpServerAddr.TheVariants as server
 use Rattle.clock.specs.declared.PtpVersion.{PtpVersion}
@@ -31,6 +19,8 @@ use Rattle.clock.specs.declared.ReferenceClock.TheVariants as clock
 use Rattle.mediarecord.specs.declared.MediaClock.{MediaClock}
 use Rattle.mediarecord.specs.declared.MediaClock.TheVariants as media
 use Rattle.mediarecord.specs.declared.MediaClockSource.{MediaClockSource}
+use Rattle.mediarecord.specs.declared.MediaClockId.{MediaClockId}
+use Rattle.mediarecord.specs.declared.Rate.{Rate}
 
 abbrev pub place_note : Place → List ℕ
 place_note p = decimal p.start ++ word "+" ++ decimal p.len
@@ -39,17 +29,17 @@ place_note p = decimal p.start ++ word "+" ++ decimal p.len
 abbrev pub eui64_note : ℕ → List ℕ
 eui64_note id = hex_capitals 16 id
 
-abbrev pub value_note : OptValue → List ℕ
-value_note NoValue = word "-"
-value_note (SomeValue p) = place_note p
+abbrev pub value_note : Option Place → List ℕ
+value_note None = word "-"
+value_note (Some p) = place_note p
 
-abbrev pub extension_note : Place → OptValue → List ℕ
+abbrev pub extension_note : Place → Option Place → List ℕ
 extension_note name value = word "ext " ++ place_note name ++ word " " ++ value_note value
 
 -- ts-refclk
-abbrev pub port_note : OptPort → List ℕ
-port_note NoPort = word "-"
-port_note (SomePort n) = decimal n
+abbrev pub port_note : Option ℕ → List ℕ
+port_note None = word "-"
+port_note (Some n) = decimal n
 
 abbrev pub ntp_note : NtpServerAddr → List ℕ
 ntp_note server.Traceable = word "ntp traceable"
@@ -65,9 +55,9 @@ abbrev pub domain_note : PtpDomain → List ℕ
 domain_note (DomainName p) = word "name " ++ place_note p
 domain_note (DomainNumber n) = word "number " ++ decimal n
 
-abbrev pub opt_domain_note : OptDomain → List ℕ
-opt_domain_note NoDomain = word "-"
-opt_domain_note (SomeDomain d) = domain_note d
+abbrev pub opt_domain_note : Option PtpDomain → List ℕ
+opt_domain_note None = word "-"
+opt_domain_note (Some d) = domain_note d
 
 abbrev pub server_note : PtpServer → List ℕ
 server_note source.Traceable = word "traceable"
@@ -91,19 +81,19 @@ reference_clock_note (clock.Private p) = private_note p
 reference_clock_note (clock.Ext e) = extension_note e.name e.value
 
 -- mediaclk
-abbrev pub id_note : OptId → List ℕ
-id_note NoId = word "-"
-id_note (SomeId d) = cond d.src (word "src ") (word "id ") ++ place_note d.tag
+abbrev pub id_note : Option MediaClockId → List ℕ
+id_note None = word "-"
+id_note (Some d) = cond d.src (word "src ") (word "id ") ++ place_note d.tag
 
-abbrev pub offset_note : OptOffset → List ℕ
-offset_note NoOffset = word "-"
-offset_note (SomeOffset n) = decimal n
+abbrev pub offset_note : Option ℕ → List ℕ
+offset_note None = word "-"
+offset_note (Some n) = decimal n
 
-abbrev pub rate_note : OptRate → List ℕ
-rate_note NoRate = word "-"
-rate_note (SomeRate r) = decimal r.numerator ++ word "/" ++ decimal r.denominator
+abbrev pub rate_note : Option Rate → List ℕ
+rate_note None = word "-"
+rate_note (Some r) = decimal r.numerator ++ word "/" ++ decimal r.denominator
 
-abbrev pub direct_note : OptOffset → OptRate → List ℕ
+abbrev pub direct_note : Option ℕ → Option Rate → List ℕ
 direct_note offset rate = word "direct " ++ offset_note offset ++ word " " ++ rate_note rate
 
 abbrev pub media_note : MediaClock → List ℕ

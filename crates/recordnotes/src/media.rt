@@ -5,45 +5,45 @@ ghost use Rattle.room.specs.Put.{Put};
 ghost use Rattle.recordnotes.specs.Notation.{id_note, offset_note, rate_note, direct_note, media_note, media_clock_source_note};
 
 use crate::parts;
-use mediarecord::{MediaClock, MediaClockSource, OptId, OptOffset, OptRate};
+use mediarecord::{MediaClock, MediaClockId, MediaClockSource, Rate};
 
 fn put_id_kind(room: &mut [u8], at: usize, src: bool) -> usize
     ensures { Put 4 room.old at (cond src (word "src ") (word "id ")) result room.new }
 {
     if src {
-        return room::put_bytes(room, at, b"src ");
+        room::put_bytes(room, at, b"src ")
+    } else {
+        room::put_bytes(room, at, b"id ")
     }
-    room::put_bytes(room, at, b"id ")
 }
 
-fn put_id(room: &mut [u8], at: usize, id: OptId) -> usize
+fn put_id(room: &mut [u8], at: usize, id: Option<MediaClockId>) -> usize
     ensures { Put 45 room.old at (id_note id) result room.new }
 {
     match id {
-        OptId::NoId => room::put_byte(room, at, b'-'),
-        OptId::SomeId(d) => {
-            let tag = d.tag;
+        None => room::put_byte(room, at, b'-'),
+        Some(d) => {
             let to = put_id_kind(room, at, d.src);
-            parts::put_place(room, to, tag)
+            parts::put_place(room, to, d.tag)
         }
     }
 }
 
-fn put_offset(room: &mut [u8], at: usize, offset: OptOffset) -> usize
+fn put_offset(room: &mut [u8], at: usize, offset: Option<u32>) -> usize
     ensures { Put 10 room.old at (offset_note offset) result room.new }
 {
     match offset {
-        OptOffset::NoOffset => room::put_byte(room, at, b'-'),
-        OptOffset::SomeOffset(n) => digits::put_decimal(room, at, n),
+        None => room::put_byte(room, at, b'-'),
+        Some(n) => digits::put_decimal(room, at, n),
     }
 }
 
-fn put_rate(room: &mut [u8], at: usize, rate: OptRate) -> usize
+fn put_rate(room: &mut [u8], at: usize, rate: Option<Rate>) -> usize
     ensures { Put 21 room.old at (rate_note rate) result room.new }
 {
     match rate {
-        OptRate::NoRate => room::put_byte(room, at, b'-'),
-        OptRate::SomeRate(r) => {
+        None => room::put_byte(room, at, b'-'),
+        Some(r) => {
             let slash = digits::put_decimal(room, at, r.numerator);
             let denominator = room::put_byte(room, slash, b'/');
             digits::put_decimal(room, denominator, r.denominator)
@@ -51,7 +51,7 @@ fn put_rate(room: &mut [u8], at: usize, rate: OptRate) -> usize
     }
 }
 
-fn put_direct(room: &mut [u8], at: usize, offset: OptOffset, rate: OptRate) -> usize
+fn put_direct(room: &mut [u8], at: usize, offset: Option<u32>, rate: Option<Rate>) -> usize
     ensures { Put 39 room.old at (direct_note offset rate) result room.new }
 {
     let first = room::put_bytes(room, at, b"direct ");
@@ -65,29 +65,19 @@ fn put_clock(room: &mut [u8], at: usize, clock: MediaClock) -> usize
 {
     match clock {
         MediaClock::Sender => room::put_bytes(room, at, b"sender"),
-        MediaClock::Direct(d) => {
-            let offset = d.offset;
-            let rate = d.rate;
-            put_direct(room, at, offset, rate)
-        }
+        MediaClock::Direct(d) => put_direct(room, at, d.offset, d.rate),
         MediaClock::Ieee1722StreamId(g) => {
             let to = room::put_bytes(room, at, b"stream ");
             digits::put_hex_u64(room, to, g.id)
         }
-        MediaClock::Ext(e) => {
-            let name = e.name;
-            let value = e.value;
-            parts::put_extension(room, at, name, value)
-        }
+        MediaClock::Ext(e) => parts::put_extension(room, at, e.name, e.value),
     }
 }
 
 pub fn note_media_clock_source(source: MediaClockSource, room: &mut [u8]) -> usize
     ensures { Put 133 room.old 0 (media_clock_source_note source) result room.new }
 {
-    let id = source.id;
-    let clock = source.clock;
-    let space = put_id(room, 0, id);
+    let space = put_id(room, 0, source.id);
     let to = room::put_byte(room, space, b' ');
-    put_clock(room, to, clock)
+    put_clock(room, to, source.clock)
 }

@@ -3,7 +3,6 @@
 ghost use Rattle.room.specs.Put.{Put};
 ghost use Rattle.recordnotes.specs.Notation.{place_note, value_note, extension_note};
 
-use clock::OptValue;
 use text::Place;
 
 pub(crate) fn put_place(room: &mut [u8], at: usize, p: Place) -> usize
@@ -14,16 +13,16 @@ pub(crate) fn put_place(room: &mut [u8], at: usize, p: Place) -> usize
     digits::put_decimal_u64(room, to, p.len as u64)
 }
 
-fn put_value(room: &mut [u8], at: usize, value: OptValue) -> usize
+fn put_value(room: &mut [u8], at: usize, value: Option<Place>) -> usize
     ensures { Put 41 room.old at (value_note value) result room.new }
 {
     match value {
-        OptValue::NoValue => room::put_byte(room, at, b'-'),
-        OptValue::SomeValue(p) => put_place(room, at, p),
+        None => room::put_byte(room, at, b'-'),
+        Some(p) => put_place(room, at, p),
     }
 }
 
-pub(crate) fn put_extension(room: &mut [u8], at: usize, name: Place, value: OptValue) -> usize
+pub(crate) fn put_extension(room: &mut [u8], at: usize, name: Place, value: Option<Place>) -> usize
     ensures { Put 87 room.old at (extension_note name value) result room.new }
 {
     let first = room::put_bytes(room, at, b"ext ");

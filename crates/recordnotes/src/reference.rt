@@ -4,17 +4,14 @@ ghost use Rattle.recordnotes.specs.Notation.{port_note, ntp_note, version_note, 
 ghost use Rattle.recordnotes.specs.Notation.{server_note, ptp_note, private_note, reference_clock_note};
 
 use crate::parts;
-use clock::{
-    NtpServerAddr, OptDomain, OptPort, PrivateSource, PtpDomain, PtpServer, PtpVersion,
-    ReferenceClock,
-};
+use clock::{NtpServerAddr, PrivateSource, PtpDomain, PtpServer, PtpVersion, ReferenceClock};
 
-fn put_port(room: &mut [u8], at: usize, port: OptPort) -> usize
+fn put_port(room: &mut [u8], at: usize, port: Option<u16>) -> usize
     ensures { Put 10 room.old at (port_note port) result room.new }
 {
     match port {
-        OptPort::NoPort => room::put_byte(room, at, b'-'),
-        OptPort::SomePort(n) => digits::put_decimal(room, at, n as u32),
+        None => room::put_byte(room, at, b'-'),
+        Some(n) => digits::put_decimal(room, at, u32::from(n)),
     }
 }
 
@@ -58,12 +55,12 @@ fn put_domain(room: &mut [u8], at: usize, domain: PtpDomain) -> usize
     }
 }
 
-fn put_opt_domain(room: &mut [u8], at: usize, domain: OptDomain) -> usize
+fn put_opt_domain(room: &mut [u8], at: usize, domain: Option<PtpDomain>) -> usize
     ensures { Put 46 room.old at (opt_domain_note domain) result room.new }
 {
     match domain {
-        OptDomain::NoDomain => room::put_byte(room, at, b'-'),
-        OptDomain::SomeDomain(d) => put_domain(room, at, d),
+        None => room::put_byte(room, at, b'-'),
+        Some(d) => put_domain(room, at, d),
     }
 }
 
@@ -102,24 +99,13 @@ pub fn note_reference_clock(clock: ReferenceClock, room: &mut [u8]) -> usize
     ensures { Put 109 room.old 0 (reference_clock_note clock) result room.new }
 {
     match clock {
-        ReferenceClock::Ntp(n) => {
-            let server = n.server;
-            put_ntp(room, 0, server)
-        }
-        ReferenceClock::Ptp(p) => {
-            let version = p.version;
-            let server = p.server;
-            put_ptp(room, 0, version, server)
-        }
+        ReferenceClock::Ntp(n) => put_ntp(room, 0, n.server),
+        ReferenceClock::Ptp(p) => put_ptp(room, 0, p.version, p.server),
         ReferenceClock::Gps => room::put_bytes(room, 0, b"gps"),
         ReferenceClock::Gal => room::put_bytes(room, 0, b"gal"),
         ReferenceClock::Glonass => room::put_bytes(room, 0, b"glonass"),
         ReferenceClock::Local => room::put_bytes(room, 0, b"local"),
         ReferenceClock::Private(p) => put_private(room, 0, p),
-        ReferenceClock::Ext(e) => {
-            let name = e.name;
-            let value = e.value;
-            parts::put_extension(room, 0, name, value)
-        }
+        ReferenceClock::Ext(e) => parts::put_extension(room, 0, e.name, e.value),
     }
 }

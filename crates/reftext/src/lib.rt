@@ -1,9 +1,8 @@
 // The text of a ts-refclk record. A local that holds a place in the room is named by what is put there. The bound in a contract is the sum of what is
 // put: the bytes of the words, 10 for a number, 23 for an EUI-64, and all of the value for each place.
-#![tactic(auto)]
+#![tactic(auto, using(room::proofs::Laws::puts))]
 
 ghost use Rattle.std.specs.Prelude.{[], ◌∷◌, ◌++◌, ◌+◌, ◌*◌, length};
-ghost use Rattle.std.proofs.Math.Option.{some};
 ghost use Rattle.text.specs.Word.{word};
 ghost use Rattle.number.specs.Decimal.{decimal};
 ghost use Rattle.meaning.specs.Domain.{bare};
@@ -11,21 +10,18 @@ ghost use Rattle.meaning.specs.Meaning.{ptp, version_means, domain_means, opt_do
 ghost use Rattle.meaning.specs.Text.{version_text, domain_text, server_text, host_text, ref_meaning_text, reference_clock_text};
 ghost use Rattle.room.specs.Put.{Put};
 
-use clock::{
-    NtpServerAddr, OptDomain, OptPort, PrivateSource, PtpDomain, PtpServer, PtpVersion,
-    ReferenceClock,
-};
+use clock::{NtpServerAddr, PrivateSource, PtpDomain, PtpServer, PtpVersion, ReferenceClock};
 
 fn put_port(room: &mut [u8], at: usize, port: u16) -> usize
     ensures { Put 11 room.old at (58 ∷ decimal port) result room.new }
 {
     let to = room::put_byte(room, at, b':');
-    digits::put_decimal(room, to, port as u32)
+    digits::put_decimal(room, to, u32::from(port))
 }
 
 // A host that has a colon stands in brackets before a port.
 fn put_host_and_port(room: &mut [u8], at: usize, host: &[u8], port: u16) -> usize
-    ensures { Put (length host.now + 13) room.old at (host_text host.now (some port)) result room.new }
+    ensures { Put (length host.now + 13) room.old at (host_text host.now (Some port)) result room.new }
 {
     if search::find(host, b':') < host.len() {
         let inner = room::put_byte(room, at, b'[');
@@ -38,16 +34,17 @@ fn put_host_and_port(room: &mut [u8], at: usize, host: &[u8], port: u16) -> usiz
 }
 
 // `port_means` and `private_means` take a value and do not look at it.
-fn put_host(room: &mut [u8], at: usize, host: &[u8], port: OptPort) -> usize
+fn put_host(room: &mut [u8], at: usize, host: &[u8], port: Option<u16>) -> usize
     ensures { Put (length host.now + 13) room.old at
         (host_text host.now (port_means host.now port)) result room.new }
 {
     match port {
-        OptPort::NoPort => room::put_bytes(room, at, host),
-        OptPort::SomePort(n) => put_host_and_port(room, at, host, n),
+        None => room::put_bytes(room, at, host),
+        Some(n) => put_host_and_port(room, at, host, n),
     }
 }
 
+#[tactic(auto, using(room::proofs::Laws::puts, text::proofs::Cuts::bytes_short), unfolding(meaning::specs::Text::ref_meaning_text))]
 fn put_ntp(room: &mut [u8], at: usize, value: &[u8], server: NtpServerAddr) -> usize
     ensures { Put (length value.now + 17) room.old at
         (ref_meaning_text bare (ntp_means value.now server)) result room.new }
@@ -82,23 +79,24 @@ fn put_version(room: &mut [u8], at: usize, value: &[u8], version: PtpVersion) ->
 }
 
 // The one place where a domain is written.
+#[tactic(auto, using(room::proofs::Laws::puts), unfolding(meaning::specs::Domain::bare_text))]
 fn put_domain(room: &mut [u8], at: usize, value: &[u8], domain: PtpDomain) -> usize
     ensures { Put (length value.now + 10) room.old at
         (bare.text (domain_means value.now domain)) result room.new }
 {
     match domain {
         PtpDomain::DomainName { name } => room::put_part(room, at, value, name),
-        PtpDomain::DomainNumber(n) => digits::put_decimal(room, at, n as u32),
+        PtpDomain::DomainNumber(n) => digits::put_decimal(room, at, u32::from(n)),
     }
 }
 
-fn put_opt_domain(room: &mut [u8], at: usize, value: &[u8], domain: OptDomain) -> usize
+fn put_opt_domain(room: &mut [u8], at: usize, value: &[u8], domain: Option<PtpDomain>) -> usize
     ensures { Put (length value.now + 11) room.old at
         (domain_text bare (opt_domain_means value.now domain)) result room.new }
 {
     match domain {
-        OptDomain::NoDomain => at,
-        OptDomain::SomeDomain(d) => {
+        None => at,
+        Some(d) => {
             let to = room::put_byte(room, at, b':');
             put_domain(room, to, value, d)
         }
@@ -134,6 +132,7 @@ fn put_ptp(
     put_server(room, second, value, server)
 }
 
+#[tactic(auto, using(room::proofs::Laws::puts), unfolding(meaning::specs::Text::ref_meaning_text))]
 fn put_private(room: &mut [u8], at: usize, source: PrivateSource) -> usize
     ensures { Put 17 room.old at (ref_meaning_text bare (private_means [] source)) result room.new }
 {
@@ -144,28 +143,18 @@ fn put_private(room: &mut [u8], at: usize, source: PrivateSource) -> usize
 }
 
 // No text is longer than that of a PTP source: `ptp=`, a version of 16 bytes or a place, `:`, and a server of 34 bytes and a place.
+#[tactic(auto, using(room::proofs::Laws::puts), unfolding(meaning::specs::Text::reference_clock_text, meaning::specs::Text::ref_meaning_text, meaning::specs::Meaning::ref_meaning))]
 pub fn put_clock(room: &mut [u8], at: usize, value: &[u8], clock: ReferenceClock) -> usize
     ensures { Put (2 * length value.now + 55) room.old at (reference_clock_text value.now clock) result room.new }
 {
     match clock {
-        ReferenceClock::Ntp(n) => {
-            let server = n.server;
-            put_ntp(room, at, value, server)
-        }
-        ReferenceClock::Ptp(p) => {
-            let version = p.version;
-            let server = p.server;
-            put_ptp(room, at, value, version, server)
-        }
+        ReferenceClock::Ntp(n) => put_ntp(room, at, value, n.server),
+        ReferenceClock::Ptp(p) => put_ptp(room, at, value, p.version, p.server),
         ReferenceClock::Gps => room::put_bytes(room, at, b"gps"),
         ReferenceClock::Gal => room::put_bytes(room, at, b"gal"),
         ReferenceClock::Glonass => room::put_bytes(room, at, b"glonass"),
         ReferenceClock::Local => room::put_bytes(room, at, b"local"),
         ReferenceClock::Private(p) => put_private(room, at, p),
-        ReferenceClock::Ext(e) => {
-            let name = e.name;
-            let given = e.value;
-            extension::put_extension(room, at, value, name, given)
-        }
+        ReferenceClock::Ext(e) => extension::put_extension(room, at, value, e.name, e.value),
     }
 }

@@ -1,4 +1,5 @@
 -- One law for each way out of this crate's functions. Assumes nothing.
+use Rattle.std.specs.Prelude.{Result, Ok, Err}
 use Prim.Native.Nat.{ℕ, ◌≤◌, ◌<◌}
 use mathlib.Core.Path.{◌≡◌, refl, sym, ◌∙◌}
 use mathlib.Core.List.{List, [], ◌∷◌}
@@ -11,11 +12,7 @@ use Rattle.text.proofs.Cuts.{starts_long}
 use Rattle.text.proofs.Left.{rest, rest_is}
 use Rattle.clock.specs.declared.Refusal.{Refusal}
 use Rattle.clock.specs.declared.ReferenceClock.{ReferenceClock}
-use Rattle.clock.specs.declared.ReferenceClockRead.{ReferenceClockRead}
-use Rattle.clock.specs.declared.ReferenceClockRead.TheVariants as ref
 use Rattle.mediarecord.specs.declared.MediaClockSource.{MediaClockSource}
-use Rattle.mediarecord.specs.declared.MediaClockSourceRead.{MediaClockSourceRead}
-use Rattle.mediarecord.specs.declared.MediaClockSourceRead.TheVariants as media
 use Rattle.meaning.specs.ReferenceClock.{read_reference_clock}
 use Rattle.meaning.specs.MediaClock.{read_media_clock_source}
 use Rattle.meaning.specs.Text.{reference_clock_text, media_clock_source_text}
@@ -53,32 +50,32 @@ module _ {v t : List ℕ} {inside : Bool} (can : Writable v inside t) {most at e
       }
 
 -- `put_ts_refclk`
-module _ (v : List ℕ) (y : ReferenceClockRead) (ey : y ≡ read_reference_clock v) where
-  pub ref_read : (c : ReferenceClock) → y ≡ ref.Accepted c → ref.Accepted c ≡ read_reference_clock v
+module _ (v : List ℕ) (y : Result ReferenceClock Refusal) (ey : y ≡ read_reference_clock v) where
+  pub ref_read : (c : ReferenceClock) → y ≡ Ok c → Ok c ≡ read_reference_clock v
   ref_read c e = sym e ∙ ey
 
   module _ (room after : List ℕ) (x : ReplySize) where
-    pub ref_ok : (c : ReferenceClock) → y ≡ ref.Accepted c → Puts (ok_reply (reference_clock_text v c)) room x after
+    pub ref_ok : (c : ReferenceClock) → y ≡ Ok c → Puts (ok_reply (reference_clock_text v c)) room x after
         → Puts (ts_refclk_reply v) room x after
     unfolding ts_refclk_reply
     ref_ok c e p = rw (← ey, e) p
 
-    pub ref_no_lem : (r : Refusal) → y ≡ ref.Refused r → Puts (no_reply r) room x after → Puts (ts_refclk_reply v) room x after
+    pub ref_no_lem : (r : Refusal) → y ≡ Err r → Puts (no_reply r) room x after → Puts (ts_refclk_reply v) room x after
     unfolding ts_refclk_reply
     ref_no_lem r e p = rw (← ey, e) p
 
 -- `put_mediaclk`
-module _ (v : List ℕ) (y : MediaClockSourceRead) (ey : y ≡ read_media_clock_source v) where
-  pub media_read : (m : MediaClockSource) → y ≡ media.Accepted m → media.Accepted m ≡ read_media_clock_source v
+module _ (v : List ℕ) (y : Result MediaClockSource Refusal) (ey : y ≡ read_media_clock_source v) where
+  pub media_read : (m : MediaClockSource) → y ≡ Ok m → Ok m ≡ read_media_clock_source v
   media_read m e = sym e ∙ ey
 
   module _ (room after : List ℕ) (x : ReplySize) where
-    pub media_ok : (m : MediaClockSource) → y ≡ media.Accepted m → Puts (ok_reply (media_clock_source_text v m)) room x after
+    pub media_ok : (m : MediaClockSource) → y ≡ Ok m → Puts (ok_reply (media_clock_source_text v m)) room x after
         → Puts (mediaclk_reply v) room x after
     unfolding mediaclk_reply
     media_ok m e p = rw (← ey, e) p
 
-    pub media_no_lem : (r : Refusal) → y ≡ media.Refused r → Puts (no_reply r) room x after → Puts (mediaclk_reply v) room x after
+    pub media_no_lem : (r : Refusal) → y ≡ Err r → Puts (no_reply r) room x after → Puts (mediaclk_reply v) room x after
     unfolding mediaclk_reply
     media_no_lem r e p = rw (← ey, e) p
 

@@ -2,8 +2,6 @@
 #![tactic(auto)]
 
 ghost use Rattle.std.specs.Prelude.{◌≡◌, ◌≤◌, length};
-ghost use Rattle.clock.specs.declared.ReferenceClockRead.TheVariants as ref;
-ghost use Rattle.mediarecord.specs.declared.MediaClockSourceRead.TheVariants as media;
 ghost use Rattle.meaning.specs.ReferenceClock.{read_reference_clock};
 ghost use Rattle.meaning.specs.MediaClock.{read_media_clock_source};
 ghost use Rattle.meaning.specs.Text.{reference_clock_text, media_clock_source_text};
@@ -13,8 +11,8 @@ ghost use Rattle.briefreply.specs.Private.Known.{reply_of};
 ghost use Rattle.reply.specs.Private.Parts.{Puts};
 
 use briefreply::{MOST_LINE_BYTES, ReplySize};
-use clock::{ReferenceClock, ReferenceClockRead, Refusal};
-use mediarecord::{MediaClockSource, MediaClockSourceRead};
+use clock::{ReferenceClock, Refusal};
+use mediarecord::MediaClockSource;
 use report::Kind;
 
 // No answer is longer: `ok `, the text of a value of 1,024 bytes, which may be two bytes longer, and LF.
@@ -41,7 +39,7 @@ fn put_no(refusal: Refusal, room: &mut [u8]) -> ReplySize
 
 // `ok `, the text of a record just read, and LF.
 fn put_ok_clock(clock: ReferenceClock, value: &[u8], room: &mut [u8]) -> ReplySize
-    requires { ref.Accepted clock ≡ read_reference_clock value.now }
+    requires { Ok clock ≡ read_reference_clock value.now }
     ensures { Puts (ok_reply (reference_clock_text value.now clock)) room.old result room.new }
 {
     let text = room::put_bytes(room, 0, b"ok ");
@@ -54,7 +52,7 @@ fn put_ok_clock(clock: ReferenceClock, value: &[u8], room: &mut [u8]) -> ReplySi
 }
 
 fn put_ok_source(source: MediaClockSource, value: &[u8], room: &mut [u8]) -> ReplySize
-    requires { media.Accepted source ≡ read_media_clock_source value.now }
+    requires { Ok source ≡ read_media_clock_source value.now }
     ensures { Puts (ok_reply (media_clock_source_text value.now source)) room.old result room.new }
 {
     let text = room::put_bytes(room, 0, b"ok ");
@@ -70,8 +68,8 @@ fn put_ts_refclk(value: &[u8], room: &mut [u8]) -> ReplySize
     ensures { Puts (ts_refclk_reply value.now) room.old result room.new }
 {
     match refclk::read_reference_clock(value) {
-        ReferenceClockRead::Accepted(clock) => put_ok_clock(clock, value, room),
-        ReferenceClockRead::Refused(refusal) => put_no(refusal, room),
+        Ok(clock) => put_ok_clock(clock, value, room),
+        Err(refusal) => put_no(refusal, room),
     }
 }
 
@@ -79,8 +77,8 @@ fn put_mediaclk(value: &[u8], room: &mut [u8]) -> ReplySize
     ensures { Puts (mediaclk_reply value.now) room.old result room.new }
 {
     match mediaclk::read_media_clock_source(value) {
-        MediaClockSourceRead::Accepted(source) => put_ok_source(source, value, room),
-        MediaClockSourceRead::Refused(refusal) => put_no(refusal, room),
+        Ok(source) => put_ok_source(source, value, room),
+        Err(refusal) => put_no(refusal, room),
     }
 }
 

@@ -1,4 +1,5 @@
 -- What is told of a value that was accepted, and a bound on what is printed for a line. Assumes nothing.
+use Rattle.std.specs.Prelude.{Result, Ok, Err}
 use Prim.Native.Nat.{ℕ, zero, suc, ◌+◌, ◌*◌, ◌/◌, ◌≤◌}
 use mathlib.Core.Path.{◌≡◌, refl, sym}
 use mathlib.Core.List.{List}
@@ -13,12 +14,7 @@ use Rattle.text.proofs.Cuts.{starts_long}
 use Rattle.number.specs.Decimal.{digits_in, decimal}
 use Rattle.clock.specs.declared.Refusal.{Refusal}
 use Rattle.clock.specs.declared.ReferenceClock.{ReferenceClock}
-use Rattle.clock.specs.declared.ReferenceClockRead.{ReferenceClockRead}
-use Rattle.clock.specs.declared.ReferenceClockRead.TheVariants as ref
 use Rattle.mediarecord.specs.declared.MediaClockSource.{MediaClockSource}
-use Rattle.mediarecord.specs.declared.MediaClockSourceRead.{MediaClockSourceRead}
-use Rattle.mediarecord.specs.declared.MediaClockSourceRead.TheVariants as media
-use Rattle.clock.specs.declared.Wrote.TheVariants.{Length}
 use Rattle.meaning.specs.ReferenceClock.{read_reference_clock}
 use Rattle.meaning.specs.MediaClock.{read_media_clock_source}
 use Rattle.meaning.specs.Text.{reference_clock_text, media_clock_source_text}
@@ -35,7 +31,7 @@ pub record Writable (v : List ℕ) (inside : Bool) (t : List ℕ) : Type 0 where
   pub longer : length t ≤ length v + 2
 
 -- writing that succeeds tells as much
-succeeded : (v : List ℕ) (inside : Bool) (t : List ℕ) (n m : ℕ) → wrote_of v inside t n ≡ Length m → m ≤ length v + 2 → Writable v inside t
+succeeded : (v : List ℕ) (inside : Bool) (t : List ℕ) (n m : ℕ) → wrote_of v inside t n ≡ Ok m → m ≤ length v + 2 → Writable v inside t
 unfolding wrote_of
 succeeded v inside t n m h l =
     by_bool (ltb 1024 (length v)) (λ e. clash (cc (simp e at h)))
@@ -53,13 +49,13 @@ is_ample : 1026 ≤ length ample
 unfolding ample
 is_ample = rw (length-replicate {A = ℕ} 1026 0) (omega arith)
 
-pub ref_writable : (v : List ℕ) (c : ReferenceClock) → ref.Accepted c ≡ read_reference_clock v
+pub ref_writable : (v : List ℕ) (c : ReferenceClock) → Ok c ≡ read_reference_clock v
     → Writable v (reference_clock_inside v c) (reference_clock_text v c)
 ref_writable v c e =
     let w = ref_written_lem v c ample (record { was_read = sym e; enough = is_ample }) in
     succeeded v (reference_clock_inside v c) (reference_clock_text v c) (length ample) _ w.succeeds w.longer
 
-pub media_writable : (v : List ℕ) (m : MediaClockSource) → media.Accepted m ≡ read_media_clock_source v
+pub media_writable : (v : List ℕ) (m : MediaClockSource) → Ok m ≡ read_media_clock_source v
     → Writable v (media_clock_source_inside v m) (media_clock_source_text v m)
 media_writable v m e =
     let w = media_written v m ample (record { was_read = sym e; enough = is_ample }) in
@@ -85,17 +81,17 @@ ref_bound : (v : List ℕ) → length (ts_refclk_reply v).says ≤ 66 + length v
 unfolding ts_refclk_reply
 ref_bound v = go (read_reference_clock v) refl
   where
-    go : (x : ReferenceClockRead) → x ≡ read_reference_clock v → length (reference_clock_reply v x).says ≤ 66 + length v
-    go (ref.Accepted c) e = simp length-append (omega (arith, (ref_writable v c e).longer))
-    go (ref.Refused r) e = omega (arith, no_bound r)
+    go : (x : Result ReferenceClock Refusal) → x ≡ read_reference_clock v → length (reference_clock_reply v x).says ≤ 66 + length v
+    go (Ok c) e = simp length-append (omega (arith, (ref_writable v c e).longer))
+    go (Err r) e = omega (arith, no_bound r)
 
 media_bound : (v : List ℕ) → length (mediaclk_reply v).says ≤ 66 + length v
 unfolding mediaclk_reply
 media_bound v = go (read_media_clock_source v) refl
   where
-    go : (x : MediaClockSourceRead) → x ≡ read_media_clock_source v → length (media_clock_source_reply v x).says ≤ 66 + length v
-    go (media.Accepted m) e = simp length-append (omega (arith, (media_writable v m e).longer))
-    go (media.Refused r) e = omega (arith, no_bound r)
+    go : (x : Result MediaClockSource Refusal) → x ≡ read_media_clock_source v → length (media_clock_source_reply v x).says ≤ 66 + length v
+    go (Ok m) e = simp length-append (omega (arith, (media_writable v m e).longer))
+    go (Err r) e = omega (arith, no_bound r)
 
 -- what is printed for a line is at most six times as long, where its end counts as one byte
 pub reply_bound : (l : List ℕ) → length (reply_to l).says ≤ 6 * (length l + 1)

@@ -13,8 +13,8 @@ use Rattle.number.specs.Hex.{hex_digit, hex_capital}
 use Rattle.eui64.specs.Eui64.{cut_at_each, high_digit, segment_of, segments_of, eui64_of, segments_text, eui64_text}
 use Rattle.ipaddr.specs.Address.{hexdig, dec_octet, ipv4address, h16, h16colon, double_colon, ls32, ipv6address, ip_address}
 use Rattle.meaning.specs.Domain.{bare, bare_read, bare_text}
-use Rattle.meaning.specs.ReferenceClock.{host_of, ntp_of, version_of, gmid_of, domain_of, server_of, ptp_of, clock_of, as_reference_clock_read}
-use Rattle.meaning.specs.MediaClock.{rate_of, offset_of, direct_of, media_clock_of, source_of, as_media_clock_source_read}
+use Rattle.meaning.specs.ReferenceClock.{host_of, ntp_of, version_of, gmid_of, domain_of, server_of, ptp_of, clock_of}
+use Rattle.meaning.specs.MediaClock.{rate_of, offset_of, direct_of, media_clock_of, source_of}
 use Rattle.meaning.specs.Meaning.{ref_meaning, media_meaning}
 use Rattle.meaning.specs.Text.{ref_meaning_text, reference_clock_text, source_meaning_text, media_clock_source_text}
 use Rattle.meaning.proofs.Rows.{short, ref_plain, media_plain}
@@ -25,11 +25,11 @@ use Rattle.report.specs.Worked.{worked_text, Worked}
 use Rattle.report.specs.declared.Kind.TheVariants.{Accepted, Refused, Other}
 
 module _ (v : List ℕ) (h : short v ≡ true) where
-  ref_reply : ts_refclk_reply v ≡ reference_clock_reply v (as_reference_clock_read (clock_of bare v))
+  ref_reply : ts_refclk_reply v ≡ reference_clock_reply v (clock_of bare v)
   unfolding ts_refclk_reply
   ref_reply = rw (ref_plain v h)
 
-  media_reply : mediaclk_reply v ≡ media_clock_source_reply v (as_media_clock_source_read (source_of v))
+  media_reply : mediaclk_reply v ≡ media_clock_source_reply v (source_of v)
   unfolding mediaclk_reply
   media_reply = rw (media_plain v h)
 

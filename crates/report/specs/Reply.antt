@@ -1,17 +1,15 @@
 -- What is printed for a line, and of which kind the line is: the one link between the report and the readers and writers.
-use Rattle.std.specs.Prelude.{ℕ, List, [], ◌∷◌, ◌++◌, cond, ltb, length, drop}
+use Rattle.std.specs.Prelude.{ℕ, List, [], ◌∷◌, ◌++◌, cond, ltb, length, drop, Result, Ok, Err}
 use Rattle.text.specs.Word.{word, starts}
 use Rattle.number.specs.Decimal.{decimal}
 use Rattle.clock.specs.declared.Refusal.{Refusal}
-use Rattle.clock.specs.declared.ReferenceClockRead.{ReferenceClockRead}
-use Rattle.clock.specs.declared.ReferenceClockRead.TheVariants as ref
-use Rattle.mediarecord.specs.declared.MediaClockSourceRead.{MediaClockSourceRead}
-use Rattle.mediarecord.specs.declared.MediaClockSourceRead.TheVariants as media
 use Rattle.meaning.specs.ReferenceClock.{read_reference_clock}
 use Rattle.meaning.specs.MediaClock.{read_media_clock_source}
 use Rattle.meaning.specs.Text.{reference_clock_text, media_clock_source_text}
 use Rattle.report.specs.declared.Kind.{Kind}
 use Rattle.report.specs.declared.Kind.TheVariants.{Accepted, Refused, Other, Long}
+use Rattle.clock.specs.declared.ReferenceClock.{ReferenceClock}
+use Rattle.mediarecord.specs.declared.MediaClockSource.{MediaClockSource}
 
 pub record Reply : Type 0 where
   pub kind : Kind
@@ -29,13 +27,13 @@ ok_reply t = reply Accepted (word "ok " ++ t)
 unfoldable pub no_reply : Refusal → Reply
 no_reply r = reply Refused (word "no " ++ decimal r.number ++ 32 ∷ [] ++ decimal r.place.start ++ 32 ∷ [] ++ decimal r.place.len)
 
-abbrev pub reference_clock_reply : List ℕ → ReferenceClockRead → Reply
-reference_clock_reply v (ref.Accepted c) = ok_reply (reference_clock_text v c)
-reference_clock_reply v (ref.Refused r) = no_reply r
+abbrev pub reference_clock_reply : List ℕ → Result ReferenceClock Refusal → Reply
+reference_clock_reply v (Ok c) = ok_reply (reference_clock_text v c)
+reference_clock_reply v (Err r) = no_reply r
 
-abbrev pub media_clock_source_reply : List ℕ → MediaClockSourceRead → Reply
-media_clock_source_reply v (media.Accepted m) = ok_reply (media_clock_source_text v m)
-media_clock_source_reply v (media.Refused r) = no_reply r
+abbrev pub media_clock_source_reply : List ℕ → Result MediaClockSource Refusal → Reply
+media_clock_source_reply v (Ok m) = ok_reply (media_clock_source_text v m)
+media_clock_source_reply v (Err r) = no_reply r
 
 -- the value of a ts-refclk line, and of a mediaclk line
 unfoldable pub ts_refclk_reply : List ℕ → Reply

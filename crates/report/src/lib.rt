@@ -2,7 +2,7 @@
 #![tactic(auto)]
 
 // What a line is: a clock line with an accepted value, or with a refused one; another line; or one over 4,096 bytes.
-#[derive(Clone, Copy)]
+#[derive(Debug, Clone, Copy, PartialEq, Eq)]
 pub enum Kind {
     Accepted,
     Refused,
@@ -11,7 +11,7 @@ pub enum Kind {
 }
 
 // How many lines there are, in all and of each kind.
-#[derive(Clone, Copy)]
+#[derive(Debug, Default, Clone, Copy, PartialEq, Eq)]
 pub struct Totals {
     pub lines: u32,
     pub ok: u32,

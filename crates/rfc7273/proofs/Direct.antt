@@ -1,9 +1,9 @@
 -- A direct clock: an offset and a rate within 32 bits. Assumes nothing.
+use Rattle.std.specs.Prelude.{Some, None, Ok, Option}
 use Prim.Native.Nat.{ℕ, ◌+◌, ◌<◌}
 use mathlib.Core.Path.{◌≡◌, refl}
 use mathlib.Core.Bool.{true}
 use mathlib.Core.List.{List, ◌∷◌, ◌++◌, append-nil}
-use mathlib.Core.Option.{Option, none, some}
 use native.Mathlib.Omega.{arith}
 use lib.Dec.{leb}
 use lib.ListN.{length}
@@ -15,16 +15,11 @@ use Rattle.text.proofs.Left.{none_left}
 use Rattle.abnf.specs.Rule.{range, ◌then_many◌}
 use Rattle.abnf.proofs.Free.{Lacks, free_laws}
 use Rattle.number.specs.Decimal.{value_from, number_of}
-use Rattle.number.specs.declared.Number.TheVariants.{Value}
 use Rattle.utf8.specs.Utf8.{utf8_of}
-use Rattle.utf8.specs.declared.Utf8.TheVariants.{Well}
 use Rattle.utf8.proofs.Text.{utf8_none, utf8_ascii, utf8_append, utf8_all_ascii}
 use Rattle.ipaddr.specs.Address.{digit}
 use Rattle.mediarecord.specs.Records as made
-use Rattle.mediarecord.specs.declared.OptOffset.TheVariants.{NoOffset, SomeOffset}
-use Rattle.mediarecord.specs.declared.OptRate.TheVariants.{NoRate, SomeRate}
 use Rattle.mediarecord.specs.declared.Direct.{Direct}
-use Rattle.meaning.specs.Answer.{accepted}
 use Rattle.meaning.specs.MediaClock.{most32, denominator_of, ratio_of, rate_of, offset_of, direct_of}
 use Rattle.meaning.specs.Meaning.{Ratio, ratio, MediaMeaning, direct, offset_means, rate_means}
 use Rattle.meaning.proofs.Told.{joined}
@@ -36,10 +31,10 @@ use Rattle.rfc7273.proofs.Parts.{digits_are, number_read, not_zero}
 
 -- digits within 32 bits: no space and no slash among them
 record Number (s : List ℕ) : Type 0 where
-  read : number_of most32 s ≡ Value (value_from 0 s)
+  read : number_of most32 s ≡ Ok (value_from 0 s)
   no_space : before 32 s ≡ length s
   no_slash : before 47 s ≡ length s
-  well : utf8_of s ≡ Well
+  well : utf8_of s ≡ (Ok tt)
 
 number : (a : ℕ) → leb 48 a ≡ true → Lacks 32 (range a 57 then_many digit) → Lacks 47 (range a 57 then_many digit)
     → Low (range a 57 then_many digit) → (s : List ℕ) → (range a 57 then_many digit) s ≡ true → leb (value_from 0 s) most32 ≡ true → Number s
@@ -78,12 +73,12 @@ module _ (n d : List ℕ) (f : Integer n) (g : Integer d) where
   abbrev rate : List ℕ
   rate = word "rate=" ++ (n ++ 47 ∷ d)
 
-  rate_well : utf8_of rate ≡ Well
+  rate_well : utf8_of rate ≡ (Ok tt)
   rate_well =
       utf8_append (word "rate=") (n ++ 47 ∷ d) (utf8_all_ascii (word "rate=") refl)
       (utf8_append n (47 ∷ d) f.number.well (utf8_ascii 47 d (omega arith) g.number.well))
 
-  rate_is : (at : ℕ) → rate_of at rate ≡ accepted (SomeRate (made.rate (value_from 0 n) (value_from 0 d)))
+  rate_is : (at : ℕ) → rate_of at rate ≡ Ok (Some (made.rate (value_from 0 n) (value_from 0 d)))
   unfolding rate_of ratio_of denominator_of same
   rate_is at =
       let j = joined 47 n d f.number.no_slash in
@@ -103,12 +98,12 @@ abbrev pub direct_means : Direct → MediaMeaning
 direct_means d = direct (offset_means d.offset) (rate_means d.rate)
 
 pub record DirectRest (t : List ℕ) (m : MediaMeaning) : Type 0 where
-  pub well : utf8_of t ≡ Well
+  pub well : utf8_of t ≡ (Ok tt)
   pub read : (at : ℕ) → Reads (direct_of at t) direct_means m
 
-without : {r : List ℕ} {b : Option Ratio} → RateText r b → DirectRest r (direct none b)
+without : {r : List ℕ} {b : Option Ratio} → RateText r b → DirectRest r (direct None b)
 unfolding direct_of same
-without without_rate = record { well = utf8_none; read = λ at. record { made = made.direct NoOffset NoRate; is = refl; tells = refl } }
+without without_rate = record { well = utf8_none; read = λ at. record { made = made.direct None None; is = refl; tells = refl } }
 without (with_rate_lem n d h k) =
     let f = of_integer n h in
     let g = of_integer d k in
@@ -116,21 +111,21 @@ without (with_rate_lem n d h k) =
       well = utf8_ascii 32 (rate n d f g) (omega arith) (rate_well n d f g);
       read = λ at.
           record {
-            made = made.direct NoOffset (SomeRate (made.rate (value_from 0 n) (value_from 0 d)));
+            made = made.direct None (Some (made.rate (value_from 0 n) (value_from 0 d)));
             is = simp (ne_eqb (length (32 ∷ rate n d f g)) 0 (λ e. omega arith), rate_is n d f g (at + 1));
             tells = refl;
           };
     }
 
 module _ (o : List ℕ) (q : Number o) where
-  offset_alone : DirectRest (61 ∷ o) (direct (some (value_from 0 o)) none)
+  offset_alone : DirectRest (61 ∷ o) (direct (Some (value_from 0 o)) None)
   unfolding direct_of offset_of rate_of same
   offset_alone =
       record {
         well = utf8_ascii 61 o (omega arith) q.well;
         read = λ at.
             record {
-              made = made.direct (SomeOffset (value_from 0 o)) NoRate;
+              made = made.direct (Some (value_from 0 o)) None;
               is = simp (
                 ne_eqb (length (61 ∷ o)) 0 (λ e. omega arith),
                 q.no_space,
@@ -143,7 +138,7 @@ module _ (o : List ℕ) (q : Number o) where
       }
 
   module _ (n d : List ℕ) (f : Integer n) (g : Integer d) where
-    offset_rate : DirectRest (61 ∷ (o ++ 32 ∷ rate n d f g)) (direct (some (value_from 0 o)) (some (ratio (value_from 0 n) (value_from 0 d))))
+    offset_rate : DirectRest (61 ∷ (o ++ 32 ∷ rate n d f g)) (direct (Some (value_from 0 o)) (Some (ratio (value_from 0 n) (value_from 0 d))))
     unfolding direct_of offset_of same
     offset_rate =
         let r = rate n d f g in
@@ -152,7 +147,7 @@ module _ (o : List ℕ) (q : Number o) where
           well = utf8_ascii 61 (o ++ 32 ∷ r) (omega arith) (utf8_append o (32 ∷ r) q.well (utf8_ascii 32 r (omega arith) (rate_well n d f g)));
           read = λ at.
               record {
-                made = made.direct (SomeOffset (value_from 0 o)) (SomeRate (made.rate (value_from 0 n) (value_from 0 d)));
+                made = made.direct (Some (value_from 0 o)) (Some (made.rate (value_from 0 n) (value_from 0 d)));
                 is = simp (
                   ne_eqb (length (61 ∷ (o ++ 32 ∷ r))) 0 (λ e. omega arith),
                   j.first,
@@ -165,7 +160,7 @@ module _ (o : List ℕ) (q : Number o) where
               };
         }
 
-  offset_then : {r : List ℕ} {b : Option Ratio} → RateText r b → DirectRest (61 ∷ (o ++ r)) (direct (some (value_from 0 o)) b)
+  offset_then : {r : List ℕ} {b : Option Ratio} → RateText r b → DirectRest (61 ∷ (o ++ r)) (direct (Some (value_from 0 o)) b)
   offset_then without_rate = rw (append-nil o) offset_alone
   offset_then (with_rate_lem n d h k) = offset_rate n d (of_integer n h) (of_integer d k)
 

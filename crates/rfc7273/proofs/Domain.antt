@@ -1,9 +1,9 @@
 -- A PTP source with one of the RFC's domains. Assumes nothing.
+use Rattle.std.specs.Prelude.{Some, Ok, Err}
 use Prim.Native.Nat.{ℕ, ◌+◌, ◌≤◌}
 use mathlib.Core.Path.{◌≡◌, refl, ◌∙◌}
 use mathlib.Core.Bool.{true}
 use mathlib.Core.List.{List, [], ◌∷◌, ◌++◌}
-use mathlib.Core.Option.{some}
 use native.Mathlib.Omega.{arith}
 use lib.ListN.{length, drop, length-append}
 use borrow.Author.Tests.{ne_eqb, eq-eqb}
@@ -12,21 +12,18 @@ use Rattle.text.specs.Place.{place}
 use Rattle.text.proofs.Laws.{same_lengths}
 use Rattle.abnf.proofs.Free.{free_laws}
 use Rattle.number.specs.Decimal.{number_of}
-use Rattle.number.specs.declared.Number.TheVariants.{Refused}
 use Rattle.number.specs.declared.Reason.TheVariants.{Digit}
 use Rattle.number.proofs.Written.{number_not}
 use Rattle.utf8.specs.Utf8.{utf8_of}
-use Rattle.utf8.specs.declared.Utf8.TheVariants.{Well}
 use Rattle.utf8.proofs.Text.{utf8_ascii, utf8_append, utf8_all_ascii}
 use Rattle.clock.specs.Records as made
-use Rattle.clock.specs.declared.OptDomain.TheVariants.{SomeDomain}
 use Rattle.clock.specs.declared.PtpVersion.{PtpVersion}
 use Rattle.clock.specs.declared.PtpDomain.{PtpDomain}
 use Rattle.clock.specs.declared.PtpDomain.TheVariants.{DomainName}
 use Rattle.clock.specs.declared.PtpServer.TheVariants.{GmidDomain}
 use Rattle.clock.specs.declared.ReferenceClock.{ReferenceClock}
 use Rattle.clock.specs.declared.ReferenceClock.TheVariants as clock
-use Rattle.meaning.specs.Answer.{Answer, accepted, refuse, ◌>>=◌}
+use Rattle.meaning.specs.Answer.{Answer, refuse, ◌>>=◌}
 use Rattle.meaning.specs.Domain.{bare, bare_read}
 use Rattle.meaning.specs.ReferenceClock.{version_of, gmid_of, domain_of, server_of, ptp_of, clock_of, reference_clock_of, read_reference_clock}
 use Rattle.meaning.specs.Meaning.{Version, name, gmid, ptp, version_means, ref_meaning}
@@ -46,14 +43,14 @@ unfolding ptp_domain ptp_domain_dgts
 domain_low c h = search (free_laws, lacks_quoted, high_range, high_word) depth 30
 
 -- it begins with a letter, so that it is no number
-domain_no_number : (d : List ℕ) → ptp_domain narrowed d ≡ true → Refused Digit ≡ number_of 127 d
+domain_no_number : (d : List ℕ) → ptp_domain narrowed d ≡ true → Err Digit ≡ number_of 127 d
 unfolding ptp_domain
 domain_no_number =
     of_or P (of_quoted_then P _ "domain-name=" (λ y h. number_not 127 100 [] (word "omain-name=" ++ y) refl (λ e. omega arith)))
     (of_quoted_then P _ "domain-nmbr=" (λ y h. number_not 127 100 [] (word "omain-nmbr=" ++ y) refl (λ e. omega arith)))
   where
     P : List ℕ → Type 0
-    P d = Refused Digit ≡ number_of 127 d
+    P d = Err Digit ≡ number_of 127 d
 
 module _ (v g d : List ℕ) (a : Version) (t : VersionText v a) (hg : eui64 g ≡ true) where
   abbrev value : List ℕ
@@ -78,10 +75,10 @@ module _ (v g d : List ℕ) (a : Version) (t : VersionText v a) (hg : eui64 g �
   -- what is read, of what the domain is read as
   abbrev source : PtpVersion → Answer PtpDomain → Answer ReferenceClock
   source w x =
-      x >>= (λ e. accepted (SomeDomain e)) >>= (λ o. accepted (GmidDomain (made.eui64 (hex_value_from 0 g)) o)) >>= (λ r. accepted (made.ptp w r))
-      >>= λ p. accepted (clock.Ptp p)
+      x >>= (λ e. Ok (Some e)) >>= (λ o. Ok (GmidDomain (made.eui64 (hex_value_from 0 g)) o)) >>= (λ r. Ok (made.ptp w r))
+      >>= λ p. Ok (clock.Ptp p)
 
-  source_is : (w : PtpVersion) → version_of 4 v ≡ accepted w → clock_of bare value ≡ source w (bare_read (at + (length g + 1)) d)
+  source_is : (w : PtpVersion) → version_of 4 v ≡ Ok w → clock_of bare value ≡ source w (bare_read (at + (length g + 1)) d)
   unfolding clock_of ptp_of server_of gmid_of domain_of same
   source_is w f =
       let i = joined 58 v server (version_read t).free in
@@ -103,18 +100,18 @@ module _ (v g d : List ℕ) (a : Version) (t : VersionText v a) (hg : eui64 g �
       )
 
   module _ (hd : ptp_domain narrowed d ≡ true) (l : length value ≤ 1024) where
-    well : utf8_of value ≡ Well
+    well : utf8_of value ≡ (Ok tt)
     well =
         utf8_append (word "ptp=") (v ++ 58 ∷ server) (utf8_all_ascii (word "ptp=") refl)
         (utf8_append v (58 ∷ server) (version_read t).well
         (utf8_ascii 58 server (omega arith)
         (utf8_append g (58 ∷ d) (low_well eui_low g hg) (utf8_ascii 58 d (omega arith) (low_well domain_low d hd)))))
 
-    named : length d ≡ 16 → RefReads value (ptp a (gmid (hex_value_from 0 g) (some (name d))))
+    named : length d ≡ 16 → RefReads value (ptp a (gmid (hex_value_from 0 g) (Some (name d))))
     unfolding bare_read ref_meaning
     named e =
-        by_rules value (ptp a (gmid (hex_value_from 0 g) (some (name d))))
-        (clock.Ptp (made.ptp version.made (GmidDomain (made.eui64 (hex_value_from 0 g)) (SomeDomain (DomainName (place (at + (length g + 1)) (length d)))))))
+        by_rules value (ptp a (gmid (hex_value_from 0 g) (Some (name d))))
+        (clock.Ptp (made.ptp version.made (GmidDomain (made.eui64 (hex_value_from 0 g)) (Some (DomainName (place (at + (length g + 1)) (length d)))))))
         well (source_is version.made version.is ∙ simp (eq-eqb (length d) 16 e))
         (rw (version.tells, bytes_all value (at + (length g + 1)) d domain_at)) l
 

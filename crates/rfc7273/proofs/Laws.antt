@@ -1,4 +1,5 @@
 -- Laws of the narrowed grammar: how its texts come apart and are put together, and which bytes they lack. Assumes nothing.
+use Rattle.std.specs.Prelude.{Ok}
 use Prim.Native.Nat.{ℕ, suc, ◌≤◌, ◌<◌}
 use Prim.Native.String.{String}
 use mathlib.Core.Path.{◌≡◌, refl, sym, ap, ◌∙◌}
@@ -18,15 +19,14 @@ use Rattle.abnf.proofs.Rules.{byte_is, then_split, then_join}
 use Rattle.abnf.proofs.Free.{Lacks, All, none, more, lacks_all}
 use Rattle.abnf.proofs.Sizes.{count_of, count_append}
 use Rattle.utf8.specs.Utf8.{utf8_of}
-use Rattle.utf8.specs.declared.Utf8.TheVariants.{Well}
 use Rattle.utf8.proofs.Text.{utf8_all_ascii}
-use Rattle.meaning.specs.Answer.{Answer, accepted}
+use Rattle.meaning.specs.Answer.{Answer}
 use Rattle.rfc7273.specs.Manner.{narrowed, only_in, small, either_case, quoted}
 
 -- x accepts what means m
 pub record Reads {A M : Type 0} (x : Answer A) (means : A → M) (m : M) : Type 0 where
   pub made : A
-  pub is : x ≡ accepted made
+  pub is : x ≡ Ok made
   pub tells : means made ≡ m
 
 -- how a text comes apart: what holds of all that its rule is made of holds of it
@@ -131,7 +131,7 @@ module _ (c : ℕ) (h : 128 ≤ c) where
 abbrev pub Low : Rule → Type 0
 Low p = (c : ℕ) → 128 ≤ c → Lacks c p
 
-pub low_well : {p : Rule} → Low p → (s : List ℕ) → p s ≡ true → utf8_of s ≡ Well
+pub low_well : {p : Rule} → Low p → (s : List ℕ) → p s ≡ true → utf8_of s ≡ (Ok tt)
 low_well {p} f s h = utf8_all_ascii s (go s (lacks_all (λ b. ltb b 128) p (λ c e. (f c (ltb-false c 128 e)).free) s h))
   where
     go : (s : List ℕ) → All (λ b. ltb b 128) s → ascii s ≡ true

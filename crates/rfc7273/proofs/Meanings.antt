@@ -1,10 +1,10 @@
 -- A text of the narrowed grammar has a meaning of its alternative's kind. Assumes nothing.
+use Rattle.std.specs.Prelude.{Option}
 use Prim.Native.Nat.{ℕ}
 use Prim.Native.String.{String}
 use mathlib.Core.Path.{◌≡◌, refl, sym, ap}
 use mathlib.Core.Bool.{true, false}
 use mathlib.Core.List.{List, [], ◌∷◌, ◌++◌, append-nil, append_assoc}
-use mathlib.Core.Option.{Option}
 use Rattle.text.specs.Word.{word, same}
 use Rattle.text.proofs.Bools.{by_bool}
 use Rattle.text.proofs.Cuts.{same_eq}

@@ -1,9 +1,9 @@
 -- mediaclk: a text reads as what it means. Assumes nothing.
+use Rattle.std.specs.Prelude.{Some, None, Ok, Option}
 use Prim.Native.Nat.{ℕ, ◌+◌, ◌≤◌}
 use mathlib.Core.Path.{◌≡◌, refl, ap, ◌∙◌}
 use mathlib.Core.Bool.{true, false}
 use mathlib.Core.List.{List, ◌∷◌, ◌++◌}
-use mathlib.Core.Option.{Option, none, some}
 use native.Mathlib.Omega.{arith}
 use lib.Dec.{eqb}
 use lib.ListN.{length, drop}
@@ -14,16 +14,13 @@ use Rattle.text.proofs.Bools.{by_bool, clash, neither}
 use Rattle.text.proofs.Cuts.{before_append, drop_join}
 use Rattle.abnf.proofs.Free.{Lacks, free_laws}
 use Rattle.utf8.specs.Utf8.{utf8_of}
-use Rattle.utf8.specs.declared.Utf8.TheVariants.{Well}
 use Rattle.utf8.proofs.Text.{utf8_ascii, utf8_append, utf8_all_ascii}
 use Rattle.clock.specs.Records.{eui64}
 use Rattle.mediarecord.specs.Records.{media_clock_ext, media_clock_id, media_clock_source}
-use Rattle.mediarecord.specs.declared.OptId.TheVariants.{NoId, SomeId}
 use Rattle.mediarecord.specs.declared.MediaClockId.{MediaClockId}
 use Rattle.mediarecord.specs.declared.MediaClock.{MediaClock}
 use Rattle.mediarecord.specs.declared.MediaClock.TheVariants as clock
 use Rattle.mediarecord.specs.declared.MediaClockSource.{MediaClockSource}
-use Rattle.meaning.specs.Answer.{accepted}
 use Rattle.meaning.specs.MediaClock.{stream_of, media_clock_of, tag_of, id_of, tagged_of, source_of, media_clock_source_of, read_media_clock_source}
 use Rattle.meaning.specs.Meaning.{Tag, MediaMeaning, media_ext, SourceMeaning, media_source, id_means, media_means, media_meaning}
 use Rattle.meaning.proofs.Told.{guarded_well, joined, starts_cut, further, bytes_front}
@@ -41,7 +38,7 @@ use Rattle.rfc7273.proofs.Direct.{DirectRest, direct_read}
 
 -- a clock, wherever it stands to the end of a value
 record Clock (s : List ℕ) (m : MediaMeaning) : Type 0 where
-  well : utf8_of s ≡ Well
+  well : utf8_of s ≡ (Ok tt)
   read : (at : ℕ) (w : List ℕ) → drop at w ≡ s → Reads (media_clock_of at s) (media_means w) m
 
 of_direct : (t : List ℕ) (m : MediaMeaning) → DirectRest t m → Clock (word "direct" ++ t) m
@@ -79,9 +76,9 @@ of_clock_lem (media_ext_text s n x t k) = of_ext s n x t k
 
 -- an id, as it stands before the space
 record Id (x : List ℕ) (m : Tag) : Type 0 where
-  well : utf8_of x ≡ Well
+  well : utf8_of x ≡ (Ok tt)
   free : before 32 x ≡ length x
-  read : (w y : List ℕ) → drop 3 w ≡ x ++ y → Reads (id_of 3 x) (λ d. id_means w (SomeId d)) (some m)
+  read : (w y : List ℕ) → drop 3 w ≡ x ++ y → Reads (id_of 3 x) (λ d. id_means w (Some d)) (Some m)
 
 pub base64_space : Lacks 32 base64
 unfolding base64 base64_char alpha
@@ -97,7 +94,7 @@ base64_low c h = search (free_laws, high_range) depth 30
 
 -- a tag: base64, and not empty
 record TagBytes (t : List ℕ) : Type 0 where
-  well : utf8_of t ≡ Well
+  well : utf8_of t ≡ (Ok tt)
   free : before 32 t ≡ length t
   no_src : starts (word "src:") t ≡ false
   some : eqb (length t) 0 ≡ false
@@ -146,30 +143,30 @@ of_id (src_text t h) =
 abbrev As : List ℕ → SourceMeaning → Type 0
 As s m = length s ≤ 1024 → MediaReads s m
 
-by_rules : (s : List ℕ) (m : SourceMeaning) (c : MediaClockSource) → utf8_of s ≡ Well → source_of s ≡ accepted c → media_meaning s c ≡ m → As s m
+by_rules : (s : List ℕ) (m : SourceMeaning) (c : MediaClockSource) → utf8_of s ≡ (Ok tt) → source_of s ≡ Ok c → media_meaning s c ≡ m → As s m
 unfolding read_media_clock_source media_clock_source_of
 by_rules s m c w e k h = record { source = c; accepted = rw (guarded_well s (source_of s) h w, e); means = k }
 
-untagged : (s : List ℕ) (m : MediaMeaning) → left_to_no_id s ≡ true → Clock s m → As s (media_source none m)
+untagged : (s : List ℕ) (m : MediaMeaning) → left_to_no_id s ≡ true → Clock s m → As s (media_source None m)
 unfolding source_of media_meaning
 untagged s m e c =
     let r = c.read 0 s refl in
-    by_rules s (media_source none m) (media_clock_source NoId r.made) c.well
+    by_rules s (media_source None m) (media_clock_source None r.made) c.well
     (simp (not_so (starts (word "id=") s) e, r.is)) (rw r.tells)
 
-tagged_is : (x y : List ℕ) (i : MediaClockId) (c : MediaClock) → before 32 x ≡ length x → id_of 3 x ≡ accepted i
-    → media_clock_of (3 + (length x + 1)) y ≡ accepted c → source_of (word "id=" ++ (x ++ 32 ∷ y)) ≡ accepted (media_clock_source (SomeId i) c)
+tagged_is : (x y : List ℕ) (i : MediaClockId) (c : MediaClock) → before 32 x ≡ length x → id_of 3 x ≡ Ok i
+    → media_clock_of (3 + (length x + 1)) y ≡ Ok c → source_of (word "id=" ++ (x ++ 32 ∷ y)) ≡ Ok (media_clock_source (Some i) c)
 unfolding source_of tagged_of same
 tagged_is x y i c f g h = let j = joined 32 x y f in simp (j.first, j.found, j.front, j.behind, g, h)
 
-tagged : (x y : List ℕ) (a : Tag) (m : MediaMeaning) → Id x a → Clock y m → As (word "id=" ++ (x ++ 32 ∷ y)) (media_source (some a) m)
+tagged : (x y : List ℕ) (a : Tag) (m : MediaMeaning) → Id x a → Clock y m → As (word "id=" ++ (x ++ 32 ∷ y)) (media_source (Some a) m)
 unfolding media_meaning
 tagged x y a m t c =
     let s = word "id=" ++ (x ++ 32 ∷ y) in
     let at = 3 + (length x + 1) in
     let i = t.read s (32 ∷ y) refl in
     let r = c.read at s (further s 3 (length x + 1) (x ++ 32 ∷ y) refl ∙ drop_join x 32 y (length x) refl) in
-    by_rules s (media_source (some a) m) (media_clock_source (SomeId i.made) r.made)
+    by_rules s (media_source (Some a) m) (media_clock_source (Some i.made) r.made)
     (utf8_append (word "id=") (x ++ 32 ∷ y) (utf8_all_ascii (word "id=") refl)
     (utf8_append x (32 ∷ y) t.well (utf8_ascii 32 y (omega arith) c.well)))
     (tagged_is x y i.made r.made t.free i.is r.is) (rw (i.tells, r.tells))

@@ -1,9 +1,9 @@
 -- NTP: hostport and "/traceable/". Assumes nothing.
+use Rattle.std.specs.Prelude.{Some, None, Ok, Option}
 use Prim.Native.Nat.{ℕ, suc, ◌-◌, ◌<◌}
 use mathlib.Core.Path.{◌≡◌, refl, ap, ◌∙◌}
 use mathlib.Core.Bool.{true, false}
 use mathlib.Core.List.{List, [], ◌∷◌, ◌++◌, append_assoc}
-use mathlib.Core.Option.{Option, none, some}
 use native.Mathlib.Omega.{arith}
 use native.Mathlib.Numerals.{add-one}
 use lib.Dec.{eqb}
@@ -19,15 +19,11 @@ use Rattle.abnf.specs.Rule.{Rule, nothing, range, ◌or◌, ◌then◌, ◌then_
 use Rattle.abnf.proofs.Free.{Lacks, free_laws}
 use Rattle.abnf.proofs.Sizes.{count_of, count_append, count_none}
 use Rattle.number.specs.Decimal.{value_from, number_of}
-use Rattle.number.specs.declared.Number.TheVariants.{Value}
 use Rattle.utf8.specs.Utf8.{utf8_of}
-use Rattle.utf8.specs.declared.Utf8.TheVariants.{Well}
 use Rattle.utf8.proofs.Text.{utf8_ascii, utf8_append, utf8_all_ascii}
 use Rattle.ipaddr.specs.Address.{digit, ipv4address, dec_octet, ipv6address, ip_address}
 use Rattle.ipaddr.proofs.Fits.{address_byte, address_lacks, one_colon}
-use Rattle.clock.specs.declared.OptPort.TheVariants.{NoPort, SomePort}
 use Rattle.clock.specs.declared.NtpServerAddr.TheVariants.{HostPort}
-use Rattle.meaning.specs.Answer.{accepted}
 use Rattle.meaning.specs.ReferenceClock.{port_of, address_of, bracket_of, host_of, ntp_of}
 use Rattle.meaning.specs.Meaning.{RefMeaning, ntp_traceable, ntp_host, ntp_means}
 use Rattle.meaning.proofs.Told.{further, bytes_front, bytes_all}
@@ -40,7 +36,7 @@ use Rattle.rfc7273.proofs.Parts.{digits_are, number_read}
 
 -- a server of well-formed bytes, which reads as what means m
 pub record Server (t : List ℕ) (m : RefMeaning) : Type 0 where
-  pub well : utf8_of t ≡ Well
+  pub well : utf8_of t ≡ (Ok tt)
   pub read : (w : List ℕ) → drop 4 w ≡ t → Reads (ntp_of 4 t) (ntp_means w) m
 
 -- what is not "/traceable/" and no address is read by the bracket rule or as a host
@@ -55,9 +51,9 @@ module _ (t : List ℕ) (l : 0 < length t) (n : same t (word "/traceable/") ≡ 
 
 -- a port: digits within 16 bits
 record Port (p : List ℕ) : Type 0 where
-  read : number_of 65535 p ≡ Value (value_from 0 p)
+  read : number_of 65535 p ≡ Ok (value_from 0 p)
   free : through_last 58 p ≡ 0
-  well : utf8_of p ≡ Well
+  well : utf8_of p ≡ (Ok tt)
 
 digits_colon : Lacks 58 (one_or_more digit)
 digits_colon = search free_laws depth 10
@@ -81,7 +77,7 @@ record Plain (h : List ℕ) : Type 0 where
   no_slash : before 47 h ≡ length h
   no_colon : through_last 58 h ≡ 0
   no_bracket : starts (word "[") h ≡ false
-  well : utf8_of h ≡ Well
+  well : utf8_of h ≡ (Ok tt)
 
 not_first : (h : List ℕ) → 0 < length h → before 91 h ≡ length h → starts (word "[") h ≡ false
 unfolding before same
@@ -105,13 +101,13 @@ module _ (h : List ℕ) (r : Plain h) where
       by_bool (same h (word "/traceable/"))
       (λ e. absurd (omega (arith, r.some, r.no_slash, ap (before 47) (same_eq h (word "/traceable/") e)))) (λ e. e)
 
-  alone_is : ntp_of 4 h ≡ accepted (HostPort (place 4 (length h)) NoPort)
+  alone_is : ntp_of 4 h ≡ Ok (HostPort (place 4 (length h)) None)
   unfolding host_of
   alone_is =
       by_bool (ip_address h) (address_alone h)
       (λ a. by_host h r.some not_traceable a r.no_bracket ∙ simp r.no_colon)
 
-  plain_alone : Server h (ntp_host h none)
+  plain_alone : Server h (ntp_host h None)
   plain_alone = record { well = r.well; read = λ w q. record { made = _; is = alone_is; tells = rw (bytes_all w 4 h q) } }
 
   module _ (p : List ℕ) (q : Port p) where
@@ -131,7 +127,7 @@ module _ (h : List ℕ) (r : Plain h) where
     unfolding count_of
     ported_no_address = one_colon ported (omega (arith, count_append 58 h (58 ∷ p), count_none 58 h r.no_colon, count_none 58 p q.free))
 
-    port_is : ntp_of 4 ported ≡ accepted (HostPort (place 4 (length h)) (SomePort (value_from 0 p)))
+    port_is : ntp_of 4 ported ≡ Ok (HostPort (place 4 (length h)) (Some (value_from 0 p)))
     unfolding host_of port_of
     port_is =
         let d : drop (suc (length h)) ported ≡ p = rw add-one at (drop_join h 58 p (length h) refl) in
@@ -139,7 +135,7 @@ module _ (h : List ℕ) (r : Plain h) where
         by_host ported (omega (arith, length-append h (58 ∷ p))) ported_not_traceable ported_no_address (first_byte h (58 ∷ p) r.some ∙ r.no_bracket)
         ∙ simp (last_colon, ne_eqb (suc (length h)) 0 (λ z. omega arith), ne_eqb (suc (length h)) 1 (λ z. omega (arith, r.some)), d, q.read, o)
 
-    plain_port : Server ported (ntp_host h (some (value_from 0 p)))
+    plain_port : Server ported (ntp_host h (Some (value_from 0 p)))
     plain_port =
         record {
           well = utf8_append h (58 ∷ p) r.well (utf8_ascii 58 p (omega arith) q.well);
@@ -173,14 +169,14 @@ module _ (x : List ℕ) (h : ipv6address x ≡ true) where
   inside : (w y : List ℕ) → drop 4 w ≡ 91 ∷ (x ++ y) → bytes_at (place 5 (length x)) w ≡ x
   inside w y q = bytes_front w 5 x y (further w 4 1 (91 ∷ (x ++ y)) q)
 
-  bracket_alone_is : ntp_of 4 (91 ∷ (x ++ 93 ∷ [])) ≡ accepted (HostPort (place 5 (length x)) NoPort)
+  bracket_alone_is : ntp_of 4 (91 ∷ (x ++ 93 ∷ [])) ≡ Ok (HostPort (place 5 (length x)) None)
   unfolding bracket_of address_of
   bracket_alone_is =
       let t = x ++ 93 ∷ [] in
       let e : take (length t - 1) t ≡ x = take_at x (93 ∷ []) (length t - 1) (omega (arith, length-append x (93 ∷ []))) in
       bracketed t ∙ simp (pair_none 93 58 x (no_close x address), le-ltb (length t) (length t) (omega arith), ends_join 93 x, e, address)
 
-  bracket_alone : Server (91 ∷ (x ++ 93 ∷ [])) (ntp_host x none)
+  bracket_alone : Server (91 ∷ (x ++ 93 ∷ [])) (ntp_host x None)
   bracket_alone =
       record {
         well =
@@ -190,7 +186,7 @@ module _ (x : List ℕ) (h : ipv6address x ≡ true) where
       }
 
   module _ (p : List ℕ) (q : Port p) where
-    bracket_port_is : ntp_of 4 (91 ∷ (x ++ 93 ∷ 58 ∷ p)) ≡ accepted (HostPort (place 5 (length x)) (SomePort (value_from 0 p)))
+    bracket_port_is : ntp_of 4 (91 ∷ (x ++ 93 ∷ 58 ∷ p)) ≡ Ok (HostPort (place 5 (length x)) (Some (value_from 0 p)))
     unfolding bracket_of address_of port_of
     bracket_port_is =
         let t = x ++ 93 ∷ 58 ∷ p in
@@ -204,7 +200,7 @@ module _ (x : List ℕ) (h : ipv6address x ≡ true) where
           address,
         )
 
-    bracket_port : Server (91 ∷ (x ++ 93 ∷ 58 ∷ p)) (ntp_host x (some (value_from 0 p)))
+    bracket_port : Server (91 ∷ (x ++ 93 ∷ 58 ∷ p)) (ntp_host x (Some (value_from 0 p)))
     bracket_port =
         record {
           well =
@@ -235,12 +231,12 @@ four_plain =
     plain ipv4address four_some (search free_laws depth 40) (search free_laws depth 40) (search free_laws depth 40)
     (λ c h. search (free_laws, high_range) depth 40)
 
-host_alone : {s h : List ℕ} → HostText s h → Server s (ntp_host h none)
+host_alone : {s h : List ℕ} → HostText s h → Server s (ntp_host h None)
 host_alone (hostname_text s k) = plain_alone s (hostname_plain s k)
 host_alone (ipv4_text s k) = plain_alone s (four_plain s k)
 host_alone (ipv6_text s k) = bracket_alone s k
 
-host_port : {s h : List ℕ} → HostText s h → (p : List ℕ) → Port p → Server (s ++ 58 ∷ p) (ntp_host h (some (value_from 0 p)))
+host_port : {s h : List ℕ} → HostText s h → (p : List ℕ) → Port p → Server (s ++ 58 ∷ p) (ntp_host h (Some (value_from 0 p)))
 host_port (hostname_text s k) p q = plain_port s (hostname_plain s k) p q
 host_port (ipv4_text s k) p q = plain_port s (four_plain s k) p q
 host_port (ipv6_text s k) p q = rw (append_assoc s (93 ∷ []) (58 ∷ p)) (bracket_port s k p q)

@@ -1,4 +1,5 @@
 -- The small parts: numbers and EUI-64s of the grammar are read as the numbers of their digits. Assumes nothing.
+use Rattle.std.specs.Prelude.{Ok}
 use Prim.Native.Nat.{ℕ, zero, suc, ◌+◌, ◌*◌, ◌-◌, ◌≤◌, ◌<◌}
 use mathlib.Core.Path.{◌≡◌, refl, sym, ◌∙◌}
 use mathlib.Core.Bool.{true, false, ◌&&◌}
@@ -13,11 +14,9 @@ use Rattle.abnf.proofs.Rules.{then_assoc, nothing_then}
 use Rattle.abnf.proofs.Many.{many_cons, range_many}
 use Rattle.number.specs.Decimal.{is_digit, all_digits, value_from, digits_of, number_of}
 use Rattle.number.specs.Hex.{between, hex_digit}
-use Rattle.number.specs.declared.Number.TheVariants.{Value}
 use Rattle.number.proofs.Laws.{grows, hex_decimal, hex_capital_lem, hex_small_lem}
 use Rattle.number.proofs.Written.{no_plus}
 use Rattle.eui64.specs.Eui64.{cut_at_each, high_digit, segment_of, segments_of, eui64_of}
-use Rattle.eui64.specs.declared.Eui64Read.TheVariants.{Id}
 use Rattle.ipaddr.specs.Address.{digit, hexdig}
 use Rattle.rfc7273.specs.Grammar.{eui64}
 use Rattle.rfc7273.specs.Means.{hex_value_from}
@@ -55,7 +54,7 @@ digits_are a l (x ∷ s) h =
       );
     }
 
-pub number_read : (limit : ℕ) (s : List ℕ) → Digits s → leb (value_from 0 s) limit ≡ true → number_of limit s ≡ Value (value_from 0 s)
+pub number_read : (limit : ℕ) (s : List ℕ) → Digits s → leb (value_from 0 s) limit ≡ true → number_of limit s ≡ Ok (value_from 0 s)
 unfolding number_of digits_of
 number_read limit s d h = simp (no_plus s d.all, ne_eqb (length s) 0 (λ e. omega (arith, d.some)), d.all, h)
 
@@ -106,7 +105,7 @@ of_pair_lem P f =
 -- k segments with a "-" behind each, and one more
 record Segments (k : ℕ) (s : List ℕ) : Type 0 where
   long : length s ≡ k * 3 + 2
-  reads : (at id : ℕ) → segments_of at id (cut_at_each 45 s) ≡ Id (hex_value_from id s)
+  reads : (at id : ℕ) → segments_of at id (cut_at_each 45 s) ≡ Ok (hex_value_from id s)
 
 two_digits : (n a b : ℕ) → n * 256 + (a * 16 + b) ≡ (n * 16 + a) * 16 + b
 two_digits n a b = omega arith
@@ -158,7 +157,7 @@ segments (suc k) s h =
 
 pub record Eui (s : List ℕ) : Type 0 where
   pub long : length s ≡ 23
-  pub read : eui64_of s ≡ Id (hex_value_from 0 s)
+  pub read : eui64_of s ≡ Ok (hex_value_from 0 s)
 
 pub eui_read : (s : List ℕ) → eui64 s ≡ true → Eui s
 unfolding eui64 eui64_of

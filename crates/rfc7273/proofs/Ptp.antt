@@ -1,4 +1,5 @@
 -- PTP: a version, and a server without a domain. Assumes nothing.
+use Rattle.std.specs.Prelude.{None, Ok}
 use Prim.Native.Nat.{ℕ, ◌+◌}
 use mathlib.Core.Path.{◌≡◌, refl}
 use mathlib.Core.List.{List, ◌∷◌, ◌++◌}
@@ -14,11 +15,9 @@ use Rattle.text.proofs.Laws.{same_lengths}
 use Rattle.abnf.proofs.Free.{Lacks, free_laws}
 use Rattle.abnf.proofs.Sizes.{count_of}
 use Rattle.utf8.specs.Utf8.{utf8_of}
-use Rattle.utf8.specs.declared.Utf8.TheVariants.{Well}
 use Rattle.utf8.proofs.Text.{utf8_ascii, utf8_append, utf8_all_ascii}
 use Rattle.ipaddr.specs.Address.{hexdig}
 use Rattle.clock.specs.Records as made
-use Rattle.clock.specs.declared.OptDomain.TheVariants.{NoDomain}
 use Rattle.clock.specs.declared.PtpVersion.TheVariants as version
 use Rattle.clock.specs.declared.PtpServer.TheVariants as source
 use Rattle.meaning.specs.Domain.{bare}
@@ -38,7 +37,7 @@ use Rattle.rfc7273.proofs.Texts.{version_text_lem}
 -- a version, where its bytes stand in a value; it is cut off at the first ":"
 pub record Version (x : List ℕ) (m : means.Version) : Type 0 where
   pub free : before 58 x ≡ length x
-  pub well : utf8_of x ≡ Well
+  pub well : utf8_of x ≡ (Ok tt)
   pub read : (at : ℕ) (w : List ℕ) → bytes_at (place at (length x)) w ≡ x → Reads (version_of at x) (version_means w) m
 
 version_colon : Lacks 58 (ptp_version narrowed)
@@ -82,7 +81,7 @@ eui_low c h = search (free_laws, high_range) depth 20
 
 -- a server, wherever it stands
 record Server (s : List ℕ) (m : means.Server) : Type 0 where
-  well : utf8_of s ≡ Well
+  well : utf8_of s ≡ (Ok tt)
   read : (at : ℕ) (w : List ℕ) → Reads (server_of bare at s) (server_means w) m
 
 server_read : {s : List ℕ} {m : means.Server} → ServerText s m → Server s m
@@ -93,7 +92,7 @@ server_read (gmid_text g h) =
       well = low_well eui_low g h;
       read = λ at w.
           record {
-            made = source.GmidDomain (made.eui64 (hex_value_from 0 g)) NoDomain;
+            made = source.GmidDomain (made.eui64 (hex_value_from 0 g)) None;
             is = simp (
               ne_eqb (length g) 0 (λ z. omega (arith, e.long)),
               ← same_lengths g (word "traceable") (λ z. omega (arith, e.long)),
@@ -110,7 +109,7 @@ server_read traceable_text =
 
 -- a version, ":" and a server
 pub record Source (s : List ℕ) (m : means.RefMeaning) : Type 0 where
-  pub well : utf8_of s ≡ Well
+  pub well : utf8_of s ≡ (Ok tt)
   pub read : (at : ℕ) (w : List ℕ) → drop at w ≡ s → Reads (ptp_of bare at s) (ptp_means w) m
 
 pub ptp_read : {x s : List ℕ} {a : means.Version} {b : means.Server} → VersionText x a → ServerText s b → Source (x ++ 58 ∷ s) (means.ptp a b)

@@ -1,9 +1,9 @@
 -- ts-refclk: a text reads as what it means. Assumes nothing.
+use Rattle.std.specs.Prelude.{Ok, Option}
 use Prim.Native.Nat.{ℕ, ◌≤◌}
 use mathlib.Core.Path.{◌≡◌, refl, ap}
 use mathlib.Core.Bool.{true, false}
 use mathlib.Core.List.{List, ◌∷◌, ◌++◌}
-use mathlib.Core.Option.{Option}
 use lib.ListN.{length}
 use Rattle.text.specs.Word.{word, same, starts}
 use Rattle.text.proofs.Ascii.{ascii}
@@ -11,13 +11,11 @@ use Rattle.text.proofs.Bools.{by_bool, clash, neither}
 use Rattle.text.proofs.Cuts.{same_eq}
 use Rattle.abnf.specs.Rule.{Rule, nothing, range, ◌or◌, ◌then◌, ◌then_many◌}
 use Rattle.utf8.specs.Utf8.{utf8_of}
-use Rattle.utf8.specs.declared.Utf8.TheVariants.{Well}
 use Rattle.utf8.proofs.Text.{utf8_append, utf8_all_ascii}
 use Rattle.clock.specs.Records.{ntp, clock_source_ext}
 use Rattle.clock.specs.declared.ReferenceClock.{ReferenceClock}
 use Rattle.clock.specs.declared.ReferenceClock.TheVariants as clock
 use Rattle.clock.specs.declared.PrivateSource.TheVariants as private
-use Rattle.meaning.specs.Answer.{accepted}
 use Rattle.meaning.specs.Domain.{bare}
 use Rattle.meaning.specs.ReferenceClock.{clock_of, reference_clock_of, read_reference_clock}
 use Rattle.meaning.specs.Meaning.{RefMeaning, ref_ext, ref_meaning}
@@ -38,12 +36,12 @@ use Rattle.rfc7273.proofs.Ptp as p
 abbrev pub As : List ℕ → RefMeaning → Type 0
 As s m = length s ≤ 1024 → RefReads s m
 
-pub by_rules : (s : List ℕ) (m : RefMeaning) (c : ReferenceClock) → utf8_of s ≡ Well → clock_of bare s ≡ accepted c → ref_meaning s c ≡ m → As s m
+pub by_rules : (s : List ℕ) (m : RefMeaning) (c : ReferenceClock) → utf8_of s ≡ (Ok tt) → clock_of bare s ≡ Ok c → ref_meaning s c ≡ m → As s m
 unfolding read_reference_clock reference_clock_of
 by_rules s m c w e k h = record { clock = c; accepted = rw (guarded_well s (clock_of bare s) h w, e); means = k }
 
 -- the whole words
-whole : (s : List ℕ) (c : ReferenceClock) → ascii s ≡ true → clock_of bare s ≡ accepted c → As s (ref_meaning s c)
+whole : (s : List ℕ) (c : ReferenceClock) → ascii s ≡ true → clock_of bare s ≡ Ok c → As s (ref_meaning s c)
 whole s c a e = by_rules s (ref_meaning s c) c (utf8_all_ascii s a) e refl
 
 -- "ntp=" and "ptp="

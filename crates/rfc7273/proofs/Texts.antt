@@ -1,9 +1,9 @@
 -- A text that has a meaning is one of the narrowed grammar, by the alternative of its kind. Assumes nothing.
+use Rattle.std.specs.Prelude.{Option, Some}
 use Prim.Native.Nat.{ℕ}
 use mathlib.Core.Path.{◌≡◌, refl}
 use mathlib.Core.Bool.{true}
 use mathlib.Core.List.{List, [], ◌++◌, append_assoc}
-use mathlib.Core.Option.{Option, some}
 use Rattle.text.specs.Word.{word}
 use Rattle.text.proofs.Bools.{both, or_left}
 use Rattle.abnf.specs.Rule.{Rule, nothing, range, letter, ◌or◌, ◌then◌, maybe}
@@ -116,7 +116,7 @@ unfolding range
 tag_space_lem t k = then_join (tag narrowed) sp t (word " ") k refl
 
 source_of : {t s : List ℕ} {a : Tag} {m : MediaMeaning} → TagText t a → MediaText s m
-    → mediaclk_of narrowed (source_kind (media_source (some a) m)) (word "id=" ++ ((t ++ word " ") ++ s)) ≡ true
+    → mediaclk_of narrowed (source_kind (media_source (Some a) m)) (word "id=" ++ ((t ++ word " ") ++ s)) ≡ true
 source_of {s = s} (plain_text x k) e =
     then_join (quoted narrowed "id=" then tag narrowed then sp) _ (word "id=" ++ (x ++ word " ")) s
     (quoted_then "id=" _ (x ++ word " ") (tag_space_lem x k)) (media_text_lem e)

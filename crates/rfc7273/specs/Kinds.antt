@@ -1,14 +1,12 @@
 -- The kinds of a meaning, which are the alternatives of the RFC's grammar, and what reading says of a text: its kind, or the number of its refusal.
-use Rattle.std.specs.Prelude.{ℕ, List}
-use Rattle.std.proofs.Math.Option.{Option, none, some}
-use Rattle.clock.specs.declared.ReferenceClockRead.{ReferenceClockRead}
-use Rattle.clock.specs.declared.ReferenceClockRead.TheVariants as ref
-use Rattle.mediarecord.specs.declared.MediaClockSourceRead.{MediaClockSourceRead}
-use Rattle.mediarecord.specs.declared.MediaClockSourceRead.TheVariants as src
+use Rattle.std.specs.Prelude.{ℕ, List, Result, Ok, Err, Option, Some, None}
 use Rattle.meaning.specs.ReferenceClock.{read_reference_clock}
 use Rattle.meaning.specs.MediaClock.{read_media_clock_source}
 use Rattle.meaning.specs.Meaning.{RefMeaning, ref_meaning, Tag, MediaMeaning, SourceMeaning, media_meaning}
 use Rattle.meaning.specs.Meaning as means
+use Rattle.clock.specs.declared.ReferenceClock.{ReferenceClock}
+use Rattle.clock.specs.declared.Refusal.{Refusal}
+use Rattle.mediarecord.specs.declared.MediaClockSource.{MediaClockSource}
 
 pub data Says (K : Type 0) : Type 0 where
   accepted_as : K → Says K
@@ -30,9 +28,9 @@ ref_kind means.private_standard = private
 ref_kind means.private_traceable = private
 ref_kind (means.ref_ext n x) = ref_ext
 
-abbrev pub ref_said : List ℕ → ReferenceClockRead → Says RefKind
-ref_said s (ref.Accepted c) = accepted_as (ref_kind (ref_meaning s c))
-ref_said s (ref.Refused r) = refused_with r.number
+abbrev pub ref_said : List ℕ → Result ReferenceClock Refusal → Says RefKind
+ref_said s (Ok c) = accepted_as (ref_kind (ref_meaning s c))
+ref_said s (Err r) = refused_with r.number
 
 unfoldable pub ref_says : List ℕ → Says RefKind
 ref_says s = ref_said s (read_reference_clock s)
@@ -53,8 +51,8 @@ tag_kind (means.plain_tag t) = plain_id
 tag_kind (means.src_tag t) = src_id
 
 abbrev pub id_kind : Option Tag → IdKind
-id_kind none = no_id
-id_kind (some t) = tag_kind t
+id_kind None = no_id
+id_kind (Some t) = tag_kind t
 
 abbrev pub media_kind : MediaMeaning → MediaKind
 media_kind means.sender = sender
@@ -65,9 +63,9 @@ media_kind (means.media_ext n x) = media_ext
 abbrev pub source_kind : SourceMeaning → SourceKind
 source_kind (means.media_source i m) = media_kind m with_id id_kind i
 
-abbrev pub media_said : List ℕ → MediaClockSourceRead → Says SourceKind
-media_said s (src.Accepted m) = accepted_as (source_kind (media_meaning s m))
-media_said s (src.Refused r) = refused_with r.number
+abbrev pub media_said : List ℕ → Result MediaClockSource Refusal → Says SourceKind
+media_said s (Ok m) = accepted_as (source_kind (media_meaning s m))
+media_said s (Err r) = refused_with r.number
 
 unfoldable pub media_says : List ℕ → Says SourceKind
 media_says s = media_said s (read_media_clock_source s)

@@ -1,7 +1,6 @@
 -- What a text of the RFC's grammar means, narrowed to what reading takes: a family for each rule, with one constructor for each alternative, which
 -- gives the text and the parts that it names. A number is that of its digits. No definition of reading is used here.
-use Rattle.std.specs.Prelude.{ℕ, ◌+◌, ◌*◌, ◌≡◌, true, cond, ◌||◌, not, List, [], ◌∷◌, ◌++◌, eqb}
-use Rattle.std.proofs.Math.Option.{Option, none, some}
+use Rattle.std.specs.Prelude.{ℕ, ◌+◌, ◌*◌, ◌≡◌, true, cond, ◌||◌, not, List, [], ◌∷◌, ◌++◌, eqb, Option, Some, None}
 use Rattle.text.specs.Word.{word, same}
 use Rattle.abnf.specs.Rule.{Rule}
 use Rattle.number.specs.Decimal.{value_from}
@@ -22,8 +21,8 @@ pub data HostText : List ℕ → List ℕ → Type 0 where
 
 -- hostport = host [ ":" port ]: a host alone has no port
 pub data HostportText : List ℕ → List ℕ → Option ℕ → Type 0 where
-  without_port : (s h : List ℕ) → HostText s h → HostportText s h none
-  with_port : (s h p : List ℕ) → HostText s h → port narrowed p ≡ true → HostportText (s ++ (word ":" ++ p)) h (some (value_from 0 p))
+  without_port : (s h : List ℕ) → HostText s h → HostportText s h None
+  with_port : (s h p : List ℕ) → HostText s h → port narrowed p ≡ true → HostportText (s ++ (word ":" ++ p)) h (Some (value_from 0 p))
 
 -- the number of an EUI64: that of its digits of base 16, the dashes passed over, behind digits of the value n
 unfoldable pub hex_value_from : ℕ → List ℕ → ℕ
@@ -42,13 +41,13 @@ pub data VersionText : List ℕ → Version → Type 0 where
 
 -- ptp-server: a GMID, narrowed to no domain behind it, or "traceable"
 pub data ServerText : List ℕ → Server → Type 0 where
-  gmid_text : (g : List ℕ) → eui64 g ≡ true → ServerText g (gmid (hex_value_from 0 g) none)
+  gmid_text : (g : List ℕ) → eui64 g ≡ true → ServerText g (gmid (hex_value_from 0 g) None)
   traceable_text : ServerText (word "traceable") traceable
 
 -- token [ "=" byte-string ], an extension of either attribute: its name, and where there is one its value
 pub data ExtText : List ℕ → List ℕ → Option (List ℕ) → Type 0 where
-  without_value : (n : List ℕ) → token n ≡ true → ExtText n n none
-  with_value : (n x : List ℕ) → token n ≡ true → ext_bytes narrowed x ≡ true → ExtText (n ++ (word "=" ++ x)) n (some x)
+  without_value : (n : List ℕ) → token n ≡ true → ExtText n n None
+  with_value : (n x : List ℕ) → token n ≡ true → ext_bytes narrowed x ≡ true → ExtText (n ++ (word "=" ++ x)) n (Some x)
 
 -- clksrc = ntp / ptp / gps / gal / glonass / local / private / clksrc-ext: an extension is what the rules before it leave
 pub data RefText : List ℕ → RefMeaning → Type 0 where
@@ -65,14 +64,14 @@ pub data RefText : List ℕ → RefMeaning → Type 0 where
 
 -- [ "=" 1*DIGIT ], the offset of a direct clock
 pub data OffsetText : List ℕ → Option ℕ → Type 0 where
-  without_offset : OffsetText [] none
-  with_offset_lem : (d : List ℕ) → offset narrowed d ≡ true → OffsetText (word "=" ++ d) (some (value_from 0 d))
+  without_offset : OffsetText [] None
+  with_offset_lem : (d : List ℕ) → offset narrowed d ≡ true → OffsetText (word "=" ++ d) (Some (value_from 0 d))
 
 -- [ SP "rate=" integer "/" integer ], its rate: a numerator over a denominator
 pub data RateText : List ℕ → Option Ratio → Type 0 where
-  without_rate : RateText [] none
+  without_rate : RateText [] None
   with_rate_lem : (n d : List ℕ) → integer narrowed n ≡ true → integer narrowed d ≡ true
-      → RateText (word " rate=" ++ (n ++ (word "/" ++ d))) (some (ratio (value_from 0 n) (value_from 0 d)))
+      → RateText (word " rate=" ++ (n ++ (word "/" ++ d))) (Some (ratio (value_from 0 n) (value_from 0 d)))
 
 -- mediaclock = sender / direct / "IEEE1722=" EUI64 / token [ "=" byte-string ]: an extension is what the rules before it leave
 pub data MediaText : List ℕ → MediaMeaning → Type 0 where
@@ -88,6 +87,6 @@ pub data TagText : List ℕ → Tag → Type 0 where
 
 -- mediaclk = [ "id=" [ "src:" ] base64 SP ] mediaclock
 pub data SourceText : List ℕ → SourceMeaning → Type 0 where
-  untagged_text : (s : List ℕ) (m : MediaMeaning) → MediaText s m → left_to_no_id s ≡ true → SourceText s (media_source none m)
+  untagged_text : (s : List ℕ) (m : MediaMeaning) → MediaText s m → left_to_no_id s ≡ true → SourceText s (media_source None m)
   tagged_text : (t s : List ℕ) (a : Tag) (m : MediaMeaning) → TagText t a → MediaText s m
-      → SourceText (word "id=" ++ (t ++ (word " " ++ s))) (media_source (some a) m)
+      → SourceText (word "id=" ++ (t ++ (word " " ++ s))) (media_source (Some a) m)

@@ -1,12 +1,9 @@
 -- What is owed to the RFC's texts. `proofs/Whole.antt` and `proofs/Domain.antt` prove the statements.
-use Rattle.std.specs.Prelude.{ℕ, ◌≤◌, ◌≡◌, true, List, ◌++◌, length}
-use Rattle.std.proofs.Math.Option.{some}
+use Rattle.std.specs.Prelude.{ℕ, ◌≤◌, ◌≡◌, true, List, ◌++◌, length, Ok, Some}
 use Rattle.text.specs.Word.{word}
 use Rattle.abnf.specs.Rule.{Rule}
 use Rattle.clock.specs.declared.ReferenceClock.{ReferenceClock}
-use Rattle.clock.specs.declared.ReferenceClockRead.TheVariants as ref
 use Rattle.mediarecord.specs.declared.MediaClockSource.{MediaClockSource}
-use Rattle.mediarecord.specs.declared.MediaClockSourceRead.TheVariants as src
 use Rattle.meaning.specs.ReferenceClock.{read_reference_clock}
 use Rattle.meaning.specs.MediaClock.{read_media_clock_source}
 use Rattle.meaning.specs.Meaning.{Version, name, gmid, RefMeaning, ptp, ref_meaning, SourceMeaning, media_meaning}
@@ -22,12 +19,12 @@ Narrower p q = (s : List ℕ) → p s ≡ true → q s ≡ true
 -- the text s is accepted, as a record that means m
 pub record RefReads (s : List ℕ) (m : RefMeaning) : Type 0 where
   pub clock : ReferenceClock
-  pub accepted : read_reference_clock s ≡ ref.Accepted clock
+  pub accepted : read_reference_clock s ≡ Ok clock
   pub means : ref_meaning s clock ≡ m
 
 pub record MediaReads (s : List ℕ) (m : SourceMeaning) : Type 0 where
   pub source : MediaClockSource
-  pub accepted : read_media_clock_source s ≡ src.Accepted source
+  pub accepted : read_media_clock_source s ≡ Ok source
   pub means : media_meaning s source ≡ m
 
 -- the text s has a meaning of the kind k
@@ -72,7 +69,7 @@ module _ (v g d : List ℕ) (a : Version) where
 
   -- a domain of 16 bytes is read as a name of just these bytes, any other is refused
   pub record DomainRead : Type 0 where
-    pub named : length d ≡ 16 → RefReads (with_domain v g d) (ptp a (gmid (hex_value_from 0 g) (some (name d))))
+    pub named : length d ≡ 16 → RefReads (with_domain v g d) (ptp a (gmid (hex_value_from 0 g) (Some (name d))))
     pub refused : (length d ≡ 16 → ⊥) → ref_says (with_domain v g d) ≡ refused_with 10
 
 abbrev pub Domains : Type 0

@@ -1,16 +1,14 @@
 -- No line and no stream is lost: the sum of a roll, from that of its census. Assumes nothing.
+use Rattle.std.specs.Prelude.{Result, ⊤, Ok, Err, Option, Some, None}
 use Prim.Native.Nat.{ℕ, ◌+◌, ◌≤◌, min}
 use mathlib.Core.Path.{◌≡◌, refl, sym, ap, ◌∙◌}
 use mathlib.Core.List.{List, [], ◌∷◌}
-use mathlib.Core.Option.{Option, none, some}
 use native.Mathlib.Omega.{arith}
 use lib.ListN.{length}
 use Rattle.streams.specs.Limits.{limits, most_streams}
 use Rattle.streams.specs.Rule.{Rule}
 use Rattle.streams.specs.Streams.{Streams}
 use Rattle.streams.specs.Calls.{count, after, counted_by}
-use Rattle.streams.specs.declared.Verdict.{Verdict}
-use Rattle.streams.specs.declared.Verdict.TheVariants.{Done, Refused}
 use Rattle.naming.specs.ClockRule.{ClockRule}
 use Rattle.naming.proofs.ClockRule.{there_is}
 use Rattle.slots.specs.Slot.{stream_sum}
@@ -22,6 +20,7 @@ use Rattle.kept.proofs.Kept.{sum_stays}
 use Rattle.roll.specs.declared.Roll.{Roll}
 use Rattle.roll.specs.Taking.{stream_of, fresh_roll, uncounted_by, with_line, with_stream, TakesStream, Takes, TakesLine}
 use Rattle.roll.specs.Whole.{Rolled, fresh, more, is_stream, streams_in, NoneLost, RollSum}
+use Rattle.streams.specs.declared.Uncounted.{Uncounted}
 
 abbrev R : Rule
 R = there_is.rule
@@ -36,9 +35,9 @@ record Kept (r : Roll) (m : List ℕ) (ls : List (List ℕ)) : Type 0 where
   parts : r.streams ≡ counted + r.uncounted
 
 -- a stream is counted or is not
-one_of_two : (v : List ℕ) (a : Verdict) → counted_by (count v) a + uncounted_by a ≡ 1
-one_of_two v Done = refl
-one_of_two v (Refused why) = refl
+one_of_two : (v : List ℕ) (a : Result ⊤ Uncounted) → counted_by (count v) a + uncounted_by a ≡ 1
+one_of_two v (Ok tt) = refl
+one_of_two v (Err why) = refl
 
 streams_most : (ls : List (List ℕ)) → streams_in ls ≤ length ls
 unfolding streams_in
@@ -46,8 +45,8 @@ streams_most [] = omega arith
 streams_most (l ∷ ls) = omega (arith, streams_most ls, at_most (stream_of l))
   where
     at_most : (o : Option (List ℕ)) → is_stream o ≤ 1
-    at_most none = omega arith
-    at_most (some v) = omega arith
+    at_most None = omega arith
+    at_most (Some v) = omega arith
 
 fresh_kept : (m : List ℕ) → Kept fresh_roll m []
 unfolding fresh_roll streams_in
@@ -56,7 +55,7 @@ fresh_kept m = record { counted = 0; list = []; calls = kept.fresh m; lines = re
 module _ (r : Roll) (m : List ℕ) (ls : List (List ℕ)) (l : List ℕ) (r' : Roll) (m' : List ℕ) (K : Kept r m ls) (small : length ls + 1 ≤ most_streams) where
   line_kept : (o : Option (List ℕ)) → stream_of l ≡ o → Takes r m o r' m' → Kept r' m' (l ∷ ls)
   unfolding streams_in
-  line_kept none e t =
+  line_kept None e t =
       rw (t.0, t.1)
       (record {
         counted = K.counted;
@@ -66,7 +65,7 @@ module _ (r : Roll) (m : List ℕ) (ls : List (List ℕ)) (l : List ℕ) (r' : R
         streams = simp e (omega (arith, K.streams));
         parts = K.parts;
       })
-  line_kept (some v) e t =
+  line_kept (Some v) e t =
       let q = t.called in
       let one = one_of_two v q.verdict in
       let most = streams_most ls in

@@ -1,18 +1,16 @@
 -- What a line of a session text makes of a roll and of its memory.
-use Rattle.std.specs.Prelude.{ℕ, ◌≡◌, List, cond, ltb, length, drop}
-use Rattle.std.proofs.Math.Option.{Option, none, some}
+use Rattle.std.specs.Prelude.{ℕ, ◌≡◌, List, cond, ltb, length, drop, Result, ⊤, Ok, Err, Option, Some, None}
 use Rattle.text.specs.Word.{word, starts}
-use Rattle.streams.specs.declared.Verdict.{Verdict}
-use Rattle.streams.specs.declared.Verdict.TheVariants.{Done, Refused}
 use Rattle.counts.specs.State.{fresh_census, plus}
 use Rattle.counts.specs.declared.Census.{Census}
 use Rattle.counts.specs.declared.Called.{Called}
 use Rattle.counting.specs.Counting.{Counts}
 use Rattle.roll.specs.declared.Roll.{Roll}
+use Rattle.streams.specs.declared.Uncounted.{Uncounted}
 
 -- the value of a ts-refclk line, which is that of a stream; a line over 4,096 bytes and any other line has none
 unfoldable pub stream_of : List ℕ → Option (List ℕ)
-stream_of l = cond (ltb 4096 (length l)) none (cond (starts (word "a=ts-refclk:") l) (some (drop 12 l)) none)
+stream_of l = cond (ltb 4096 (length l)) None (cond (starts (word "a=ts-refclk:") l) (Some (drop 12 l)) None)
 
 abbrev pub roll : Census → ℕ → ℕ → ℕ → Roll
 roll c l s u = record { census = c; lines = l; streams = s; uncounted = u }
@@ -25,9 +23,9 @@ fresh_roll = roll fresh_census 0 0 0
 abbrev pub with_line : Roll → Roll
 with_line r = roll r.census (plus r.lines 1) r.streams r.uncounted
 
-abbrev pub uncounted_by : Verdict → ℕ
-uncounted_by Done = 0
-uncounted_by (Refused why) = 1
+abbrev pub uncounted_by : Result ⊤ Uncounted → ℕ
+uncounted_by (Ok tt) = 0
+uncounted_by (Err why) = 1
 
 -- a stream that counting answered with q: one line and one stream more, and one uncounted more where it was refused
 abbrev pub with_stream : Roll → Called → Roll
@@ -41,8 +39,8 @@ pub record TakesStream (r : Roll) (m v : List ℕ) (r' : Roll) (m' : List ℕ) :
 
 -- no stream changes neither the census nor the memory
 abbrev pub Takes : Roll → List ℕ → Option (List ℕ) → Roll → List ℕ → Type 0
-Takes r m none r' m' = (r' ≡ with_line r) × (m' ≡ m)
-Takes r m (some v) r' m' = TakesStream r m v r' m'
+Takes r m None r' m' = (r' ≡ with_line r) × (m' ≡ m)
+Takes r m (Some v) r' m' = TakesStream r m v r' m'
 
 -- a line without its end
 pub record TakesLine (r : Roll) (m l : List ℕ) (r' : Roll) (m' : List ℕ) : Type 0 where

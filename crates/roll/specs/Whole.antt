@@ -1,6 +1,5 @@
 -- What a roll owes over all lines of a text: no line and no stream is lost. `proofs/Whole.antt` proves it.
-use Rattle.std.specs.Prelude.{ℕ, ◌+◌, ◌≤◌, ◌≡◌, List, [], ◌∷◌, length}
-use Rattle.std.proofs.Math.Option.{Option, none, some}
+use Rattle.std.specs.Prelude.{ℕ, ◌+◌, ◌≤◌, ◌≡◌, List, [], ◌∷◌, length, Option, Some, None}
 use Rattle.streams.specs.Limits.{most_streams}
 use Rattle.slots.specs.Slot.{stream_sum}
 use Rattle.counts.specs.State.{used_in}
@@ -15,8 +14,8 @@ pub data Rolled : Roll → List ℕ → List (List ℕ) → Type 0 where
 
 -- 1 for a line that is a stream
 abbrev pub is_stream : Option (List ℕ) → ℕ
-is_stream none = 0
-is_stream (some v) = 1
+is_stream None = 0
+is_stream (Some v) = 1
 
 -- how many of the lines are streams
 unfoldable pub streams_in : List (List ℕ) → ℕ

@@ -6,7 +6,7 @@ ghost use Rattle.roll.specs.Taking.{fresh_roll, uncounted_by, with_line, TakesSt
 
 use briefreply::MOST_LINE_BYTES;
 use counts::Census;
-use streams::Verdict;
+use streams::Uncounted;
 
 // The census of the streams so far; how many lines and how many streams there were, and how many of the streams could not be counted.
 #[derive(Clone, Copy)]
@@ -30,12 +30,12 @@ pub fn start() -> Roll
 }
 
 // 1 for a stream that was not counted.
-fn uncounted_by(verdict: Verdict) -> u32
+fn uncounted_by(verdict: Result<(), Uncounted>) -> u32
     ensures { result ≡ uncounted_by verdict }
 {
     match verdict {
-        Verdict::Done => 0,
-        Verdict::Refused(_) => 1,
+        Ok(()) => 0,
+        Err(_) => 1,
     }
 }
 

@@ -1,4 +1,5 @@
 -- One law for each way out of this crate's functions, and the invariant of its loops. Assumes nothing.
+use Rattle.std.specs.Prelude.{Result, Ok, Err}
 use Prim.Native.Nat.{ℕ, suc, ◌+◌, ◌*◌, ◌^◌, ◌≤◌, ◌<◌}
 use mathlib.Core.Path.{◌≡◌, refl, sym, ap, ◌∙◌}
 use mathlib.Core.List.{List, [], ◌∷◌, ◌++◌, append_assoc}
@@ -15,8 +16,6 @@ use Rattle.text.specs.Place.{Lent, PartAt}
 use Rattle.number.specs.Decimal.{decimal}
 use Rattle.clock.specs.declared.Refusal.{Refusal}
 use Rattle.clock.specs.declared.ReferenceClock.{ReferenceClock}
-use Rattle.clock.specs.declared.ReferenceClockRead.{ReferenceClockRead}
-use Rattle.clock.specs.declared.ReferenceClockRead.TheVariants.{Accepted, Refused}
 use Rattle.meaning.specs.ReferenceClock.{read_reference_clock}
 use Rattle.meaning.specs.Text.{reference_clock_text}
 use Rattle.room.specs.Put.{Put}
@@ -56,25 +55,25 @@ module _ (memory : Lent) (i n : ℕ) (en : n ≡ streams_at memory.now i) where
   clock_free e l at h z = simp (eq-eqb (streams_at memory.now i) 0 (sym en ∙ e)) (empty_put 1038 l at h z)
 
   module _ (f : n ≡ 0 → ⊥) (v : Lent) (is : PartAt memory (value_place memory.now i) v)
-      (y : ReferenceClockRead) (ey : y ≡ read_reference_clock v.now) where
+      (y : Result ReferenceClock Refusal) (ey : y ≡ read_reference_clock v.now) where
     there : v.now ≡ value_at memory.now i
     there = value_bytes memory v i is
 
     taken : eqb (streams_at memory.now i) 0 ≡ false
     taken = ne_eqb (streams_at memory.now i) 0 (λ e. f (en ∙ e))
 
-    pub clock_refused : (r : Refusal) → y ≡ Refused r → (l : List ℕ) (at : ℕ) → at < 2 ^ 64 → length l < 2 ^ 64
+    pub clock_refused : (r : Refusal) → y ≡ Err r → (l : List ℕ) (at : ℕ) → at < 2 ^ 64 → length l < 2 ^ 64
         → Put 1038 l at (clock_line memory.now i) at l
     unfolding clock_line
     clock_refused r e l at h z = simp (taken, ← there, ← ey, e) (empty_put 1038 l at h z)
 
-    pub clock_put : (c : ReferenceClock) → y ≡ Accepted c → (l l' : List ℕ) (at next : ℕ)
+    pub clock_put : (c : ReferenceClock) → y ≡ Ok c → (l l' : List ℕ) (at next : ℕ)
         → Put 1038 l at (counted_text n (reference_clock_text v.now c)) next l' → Put 1038 l at (clock_line memory.now i) next l'
     unfolding clock_line
     clock_put c e l l' at next p = simp (taken, ← there, ← ey, e, ← en) p
 
-pub clock_read : (v : List ℕ) (y : ReferenceClockRead) → y ≡ read_reference_clock v → (c : ReferenceClock) → y ≡ Accepted c
-    → Accepted c ≡ read_reference_clock v
+pub clock_read : (v : List ℕ) (y : Result ReferenceClock Refusal) → y ≡ read_reference_clock v → (c : ReferenceClock) → y ≡ Ok c
+    → Ok c ≡ read_reference_clock v
 clock_read v y ey c e = sym e ∙ ey
 
 -- `put_clocks` and `put_domains`: of n texts f 0, f 1 and so on, each of at most k bytes, the first i are put

@@ -1,15 +1,15 @@
 -- What is printed of a roll: a line for each clock in the order of the slots, a line for each domain number that has streams, and the totals.
-use Rattle.std.specs.Prelude.{ℕ, zero, suc, List, [], ◌∷◌, ◌++◌, cond, eqb}
+use Rattle.std.specs.Prelude.{ℕ, zero, suc, List, [], ◌∷◌, ◌++◌, cond, eqb, Result, Ok, Err}
 use Rattle.text.specs.Word.{word}
 use Rattle.number.specs.Decimal.{decimal}
-use Rattle.clock.specs.declared.ReferenceClockRead.{ReferenceClockRead}
-use Rattle.clock.specs.declared.ReferenceClockRead.TheVariants.{Accepted, Refused}
 use Rattle.meaning.specs.ReferenceClock.{read_reference_clock}
 use Rattle.meaning.specs.Text.{reference_clock_text}
 use Rattle.slots.specs.Slot.{streams_at, value_at, taken_slots, stream_sum}
 use Rattle.counts.specs.State.{used_in, domain_count}
 use Rattle.counts.specs.declared.Census.{Census}
 use Rattle.roll.specs.declared.Roll.{Roll}
+use Rattle.clock.specs.declared.ReferenceClock.{ReferenceClock}
+use Rattle.clock.specs.declared.Refusal.{Refusal}
 
 -- n texts one behind another: f 0, f 1 and so on
 unfoldable pub in_turn : ℕ → (ℕ → List ℕ) → List ℕ
@@ -21,9 +21,9 @@ unfoldable pub counted_text : ℕ → List ℕ → List ℕ
 counted_text n t = decimal n ++ 32 ∷ [] ++ t ++ 10 ∷ []
 
 -- n streams of the clock that the value v names, by its written text; nothing of a refused value
-abbrev pub clock_text : ℕ → List ℕ → ReferenceClockRead → List ℕ
-clock_text n v (Accepted c) = counted_text n (reference_clock_text v c)
-clock_text n v (Refused r) = []
+abbrev pub clock_text : ℕ → List ℕ → Result ReferenceClock Refusal → List ℕ
+clock_text n v (Ok c) = counted_text n (reference_clock_text v c)
+clock_text n v (Err r) = []
 
 -- the line of the slot i of the memory m; a free slot has none
 unfoldable pub clock_line : List ℕ → ℕ → List ℕ

@@ -3,7 +3,6 @@
 
 ghost use Rattle.std.specs.Prelude.{◌≡◌, ◌++◌, ◌*◌, ◌≤◌, length};
 ghost use Rattle.number.specs.Decimal.{decimal};
-ghost use Rattle.clock.specs.declared.ReferenceClockRead.TheVariants.{Accepted};
 ghost use Rattle.meaning.specs.ReferenceClock.{read_reference_clock};
 ghost use Rattle.meaning.specs.Text.{reference_clock_text};
 ghost use Rattle.room.specs.Put.{Put};
@@ -11,13 +10,13 @@ ghost use Rattle.rolltext.specs.Printing.{in_turn, counted_text, clock_line, dom
 ghost use Rattle.rolltext.specs.Printing.{counts_text, totals_text, totals_line, roll_text, warning_text};
 ghost use Rattle.rolltext.specs.Private.Front.{totals_front, totals_most};
 
-use clock::{ReferenceClock, ReferenceClockRead};
+use clock::ReferenceClock;
 use counts::Census;
 use roll::Roll;
 
 // A count, the text of the clock that it is of, and LF.
 fn put_counted(room: &mut [u8], at: usize, n: u32, value: &[u8], clock: ReferenceClock) -> usize
-    requires { Accepted clock ≡ read_reference_clock value.now }
+    requires { Ok clock ≡ read_reference_clock value.now }
     ensures { Put 1038 room.old at (counted_text n (reference_clock_text value.now clock)) result room.new }
 {
     let space = digits::put_decimal(room, at, n);
@@ -36,7 +35,7 @@ fn put_clock(room: &mut [u8], at: usize, memory: &[u8], i: u16) -> usize
     }
     let value = slots::value_at(memory, i);
     let read = refclk::read_reference_clock(value);
-    let ReferenceClockRead::Accepted(clock) = read else {
+    let Ok(clock) = read else {
         return at;
     };
     put_counted(room, at, n, value, clock)

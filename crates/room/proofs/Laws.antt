@@ -28,6 +28,13 @@ sets_stopped l next far t e h =
     let k : last_place < far = leb-false far last_place b in
     sets_behind l next t (omega (arith, e)) ∙ sym (sets_behind l far t (omega arith)))
 
+-- behind n bytes that are put from `at` on, the same is stored at the place where counting goes on
+pub sets_next : (m : List ℕ) (at n : ℕ) (t : List ℕ) → length m ≤ last_place → sets m (behind at n) t ≡ sets m (at + n) t
+sets_next m at n t h = sets_stopped m (behind at n) (at + n) t refl h
+
+-- by these `grind` finds how puts compose
+pub ruleset puts = (sets_append, sets_next, length-append)
+
 -- How puts compose: nothing; a text, and then another behind it; and a wider bound.
 pub put_none : (l : List ℕ) (at : ℕ) → at < 2 ^ 64 → length l < 2 ^ 64 → Put 0 l at [] at l
 put_none l at h k = record { place = omega arith; bound = omega arith; bytes = refl; reach = omega arith }

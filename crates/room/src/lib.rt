@@ -6,19 +6,9 @@
 ghost use Rattle.std.specs.Prelude.{◌≡◌, ◌+◌, ◌≤◌, [], ◌∷◌, length};
 ghost use Rattle.std.proofs.lemmas.List.Edits.{sets};
 ghost use Rattle.text.specs.Place.{bytes_at};
-ghost use Rattle.room.specs.Put.{behind, Put};
+ghost use Rattle.room.specs.Put.{Put};
 
 use text::Place;
-
-// The place behind a byte that is only counted. Behind the last place there is none.
-fn next_place(at: usize) -> usize
-    ensures { result ≡ behind at 1 }
-{
-    if usize::MAX <= at {
-        return at;
-    }
-    at + 1
-}
 
 pub fn put_byte(room: &mut [u8], at: usize, b: u8) -> usize
     ensures { Put 1 room.old at (b ∷ []) result room.new }
@@ -27,19 +17,16 @@ pub fn put_byte(room: &mut [u8], at: usize, b: u8) -> usize
         room[at] = b;
         return at + 1;
     }
-    next_place(at)
+    at.saturating_add(1)
 }
 
-// Stores a text that fits.
+// Stores a text that fits. A copy by the library would test first whether the two overlap.
 fn store(room: &mut [u8], at: usize, src: &[u8])
     requires { at + length src.now ≤ length room.old }
     ensures { room.new ≡ sets room.old at src.now }
 {
-    let mut i = 0;
-    while i < src.len() {
-        let to = at + i;
-        room[to] = src[i];
-        i += 1;
+    for (i, b) in src.iter().enumerate() {
+        room[at + i] = *b;
     }
 }
 
@@ -48,24 +35,20 @@ fn put_each(room: &mut [u8], at: usize, src: &[u8]) -> usize
     ensures { Put (length src.now) room.old at src.now result room.new }
 {
     let mut to = at;
-    let mut i = 0;
-    while i < src.len() {
-        to = put_byte(room, to, src[i]);
-        i += 1;
+    for b in src {
+        to = put_byte(room, to, *b);
     }
     to
 }
 
+// A text that fits is stored at once. An end before the start is one that wrapped.
 pub fn put_bytes(room: &mut [u8], at: usize, src: &[u8]) -> usize
     ensures { Put (length src.now) room.old at src.now result room.new }
 {
-    let end = std::num::wrapping_add_usize(at, src.len());
-    // a text that fits is copied; an end before the start is one that wrapped
-    if at <= end {
-        if end <= room.len() {
-            store(room, at, src);
-            return end;
-        }
+    let end = at.wrapping_add(src.len());
+    if at <= end && end <= room.len() {
+        store(room, at, src);
+        return end;
     }
     put_each(room, at, src)
 }

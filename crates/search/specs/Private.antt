@@ -1,2 +1,3 @@
 -- What only private functions and proofs need: it need not be believed.
 pub mod Passing
+pub mod Places

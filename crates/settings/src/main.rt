@@ -5,7 +5,8 @@ ghost use Rattle.std.specs.Prelude.{◌≡◌};
 ghost use Rattle.clock.specs.Setters.{with_source_value};
 ghost use Rattle.mediarecord.specs.Setters.{with_id, with_media_value, with_offset, with_rate, with_src};
 
-use clock::{ClockSourceExt, ReferenceClock, Wrote};
+use clock::{ClockSourceExt, ReferenceClock, WriteRefusal};
+use console::write_all;
 use mediarecord::{Direct, MediaClock, MediaClockExt, MediaClockId, MediaClockSource, Rate};
 use std::io;
 use std::io::Write;
@@ -59,42 +60,33 @@ fn after_set_media_value(ext: MediaClockExt, value: Place) -> MediaClockExt
     lender(ext, setters::set_media_value, value)
 }
 
-fn say(out: &mut impl Write, word: &[u8]) -> io::Result<()> {
-    console::write_all(out, word)
-}
-
-fn say_text(out: &mut impl Write, call: &[u8], room: &[u8], wrote: Wrote) -> io::Result<()> {
-    say(out, call)?;
-    say(out, b" -> ")?;
+fn say_text(
+    out: &mut impl Write,
+    call: &str,
+    room: &[u8],
+    wrote: Result<usize, WriteRefusal>,
+) -> io::Result<()> {
+    write!(out, "{call} -> ")?;
     match wrote {
-        Wrote::Length(len) => say(out, text::part(room, Place { start: 0, len })),
-        Wrote::Refused(_) => say(out, b"no"),
+        Ok(len) => write_all(out, console::front(room, len)),
+        Err(_) => write_all(out, b"no"),
     }?;
-    say(out, b"\n")
+    write_all(out, b"\n")
 }
 
-fn say_source_ext(out: &mut impl Write, call: &[u8], ext: ClockSourceExt) -> io::Result<()> {
+fn say_source_ext(out: &mut impl Write, call: &str, ext: ClockSourceExt) -> io::Result<()> {
     let mut room = [0u8; 64];
-    let clock = ReferenceClock::from_clock_source_ext(ext);
-    let wrote = writing::write_reference_clock(clock, &VALUE, &mut room);
+    let wrote = writing::write_reference_clock(ReferenceClock::from(ext), &VALUE, &mut room);
     say_text(out, call, &room, wrote)
 }
 
-fn say_source(out: &mut impl Write, call: &[u8], source: MediaClockSource) -> io::Result<()> {
+fn say_source(out: &mut impl Write, call: &str, source: MediaClockSource) -> io::Result<()> {
     let mut room = [0u8; 64];
     let wrote = writing::write_media_clock_source(source, &VALUE, &mut room);
     say_text(out, call, &room, wrote)
 }
 
-fn say_media_ext(out: &mut impl Write, call: &[u8], ext: MediaClockExt) -> io::Result<()> {
-    say_source(
-        out,
-        call,
-        MediaClockSource::new(MediaClock::from_media_clock_ext(ext)),
-    )
-}
-
-fn say_id(out: &mut impl Write, call: &[u8], id: MediaClockId) -> io::Result<()> {
+fn say_id(out: &mut impl Write, call: &str, id: MediaClockId) -> io::Result<()> {
     say_source(
         out,
         call,
@@ -102,73 +94,65 @@ fn say_id(out: &mut impl Write, call: &[u8], id: MediaClockId) -> io::Result<()>
     )
 }
 
-fn say_direct(out: &mut impl Write, call: &[u8], direct: Direct) -> io::Result<()> {
-    say_source(
-        out,
-        call,
-        MediaClockSource::new(MediaClock::from_direct(direct)),
-    )
-}
-
 // A value that was absent, and then an empty one.
 fn set_source_values(out: &mut impl Write) -> io::Result<()> {
     let ext = ClockSourceExt::new(Place { start: 0, len: 8 });
-    say_source_ext(out, b"ClockSourceExt::new", ext)?;
+    say_source_ext(out, "ClockSourceExt::new", ext)?;
     let valued = after_set_source_value(ext, Place { start: 9, len: 17 });
-    say_source_ext(out, b"set_source_value", valued)?;
+    say_source_ext(out, "set_source_value", valued)?;
     let emptied = after_set_source_value(valued, Place { start: 9, len: 0 });
-    say_source_ext(out, b"set_source_value", emptied)
+    say_source_ext(out, "set_source_value", emptied)
 }
 
 fn set_media_values(out: &mut impl Write) -> io::Result<()> {
     let ext = MediaClockExt::new(Place { start: 0, len: 8 });
-    say_media_ext(out, b"MediaClockExt::new", ext)?;
+    say_source(out, "MediaClockExt::new", MediaClockSource::from(ext))?;
     let valued = after_set_media_value(ext, Place { start: 9, len: 17 });
-    say_media_ext(out, b"set_media_value", valued)?;
+    say_source(out, "set_media_value", MediaClockSource::from(valued))?;
     let emptied = after_set_media_value(valued, Place { start: 9, len: 0 });
-    say_media_ext(out, b"set_media_value", emptied)
+    say_source(out, "set_media_value", MediaClockSource::from(emptied))
 }
 
 fn set_src_prefixes(out: &mut impl Write) -> io::Result<()> {
     let id = MediaClockId::new(Place { start: 0, len: 5 });
-    say_id(out, b"MediaClockId::new", id)?;
+    say_id(out, "MediaClockId::new", id)?;
     let flagged = after_set_src_prefix(id, true);
-    say_id(out, b"set_src_prefix true", flagged)?;
+    say_id(out, "set_src_prefix true", flagged)?;
     let plain = after_set_src_prefix(flagged, false);
-    say_id(out, b"set_src_prefix false", plain)
+    say_id(out, "set_src_prefix false", plain)
 }
 
 fn set_ids(out: &mut impl Write) -> io::Result<()> {
     let source = MediaClockSource::from_direct_offset(7);
-    say_source(out, b"MediaClockSource::from_direct_offset 7", source)?;
+    say_source(out, "MediaClockSource::from_direct_offset 7", source)?;
     let local = MediaClockId::new(Place { start: 0, len: 5 });
     let named = after_set_id(source, local);
-    say_source(out, b"set_id", named)?;
+    say_source(out, "set_id", named)?;
     let mac = MediaClockId::new_with_src_prefix(Place { start: 5, len: 3 });
     let renamed = after_set_id(named, mac);
-    say_source(out, b"set_id", renamed)
+    say_source(out, "set_id", renamed)
 }
 
 // A rate that is absent stays so.
 fn set_offset_alone(out: &mut impl Write) -> io::Result<()> {
     let direct = Direct::new();
-    say_direct(out, b"Direct::new", direct)?;
+    say_source(out, "Direct::new", MediaClockSource::from(direct))?;
     let offset = after_set_offset(direct, 4294967295);
-    say_direct(out, b"set_offset 4294967295", offset)
+    say_source(out, "set_offset 4294967295", MediaClockSource::from(offset))
 }
 
 // An offset that is absent stays so; the last rate is one that no value can have, and nothing is checked.
 fn set_rate_and_offset(out: &mut impl Write) -> io::Result<()> {
     let direct = Direct::new();
-    say_direct(out, b"Direct::new", direct)?;
+    say_source(out, "Direct::new", MediaClockSource::from(direct))?;
     let rate = after_set_rate(direct, Rate::new(1, 2));
-    say_direct(out, b"set_rate 1/2", rate)?;
+    say_source(out, "set_rate 1/2", MediaClockSource::from(rate))?;
     let both = after_set_offset(rate, 7);
-    say_direct(out, b"set_offset 7", both)?;
+    say_source(out, "set_offset 7", MediaClockSource::from(both))?;
     let zero = after_set_offset(both, 0);
-    say_direct(out, b"set_offset 0", zero)?;
+    say_source(out, "set_offset 0", MediaClockSource::from(zero))?;
     let unchecked = after_set_rate(zero, Rate::new(1, 0));
-    say_direct(out, b"set_rate 1/0", unchecked)
+    say_source(out, "set_rate 1/0", MediaClockSource::from(unchecked))
 }
 
 fn main(rt: HostRuntime) -> io::Result<()> {

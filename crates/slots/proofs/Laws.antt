@@ -1,4 +1,5 @@
 -- One law for each way out of the crate's functions. Assumes nothing.
+use Rattle.std.specs.Prelude.{Result, Ok, Err}
 use Prim.Native.Nat.{ℕ, suc, ◌+◌, ◌*◌, ◌-◌, ◌≤◌, ◌<◌, min}
 use mathlib.Core.Path.{◌≡◌, refl, sym, ap, ◌∙◌}
 use mathlib.Core.List.{List}
@@ -17,8 +18,6 @@ use Rattle.room.specs.Put.{Put}
 use Rattle.room.proofs.Laws.{put_then, put_wider}
 use Rattle.clock.specs.declared.Refusal.{Refusal}
 use Rattle.clock.specs.declared.ReferenceClock.{ReferenceClock}
-use Rattle.clock.specs.declared.ReferenceClockRead.{ReferenceClockRead}
-use Rattle.clock.specs.declared.ReferenceClockRead.TheVariants.{Accepted, Refused}
 use Rattle.meaning.specs.ReferenceClock.{read_reference_clock}
 use Rattle.meaning.specs.Meaning.{RefMeaning, ref_meaning}
 use Rattle.equal.specs.Alike.{OneClock, hosts_alike}
@@ -68,7 +67,7 @@ module _ (m : List ℕ) (k : RefMeaning) (i : ℕ) where
   pub not_taken : (n : ℕ) → n ≡ streams_at m i → n ≡ 0 → Decides false (OfClock m k i)
   not_taken n en z = record { right = λ e. clash (cc (e)); found = λ o. absurd (o.taken (sym en ∙ z)) }
 
-module _ (e : Lent) (k : RefMeaning) (i : ℕ) (w : Lent) (ew : PartAt e (value_place e.now i) w) (x : ReferenceClockRead)
+module _ (e : Lent) (k : RefMeaning) (i : ℕ) (w : Lent) (ew : PartAt e (value_place e.now i) w) (x : Result ReferenceClock Refusal)
     (ex : x ≡ read_reference_clock w.now) where
   there : w.now ≡ value_at e.now i
   there = value_bytes e w i ew
@@ -76,11 +75,11 @@ module _ (e : Lent) (k : RefMeaning) (i : ℕ) (w : Lent) (ew : PartAt e (value_
   read_there : read_reference_clock (value_at e.now i) ≡ x
   read_there = ap read_reference_clock (sym there) ∙ sym ex
 
-  pub not_read : (q : Refusal) → x ≡ Refused q → Decides false (OfClock e.now k i)
+  pub not_read : (q : Refusal) → x ≡ Err q → Decides false (OfClock e.now k i)
   not_read q f = record { right = λ y. clash (cc (y)); found = λ o. clash (cc (read_there, f, o.reads)) }
 
   pub is_asked : (n p : ℕ) → n ≡ print_at e.now i → p ≡ fingerprint host_print k → n ≡ p → (t : ℕ) → t ≡ streams_at e.now i → (t ≡ 0 → ⊥)
-      → (d : ReferenceClock) → x ≡ Accepted d → (r : Bool) → Decides r (OneClock hosts_alike k (ref_meaning w.now d)) → Decides r (OfClock e.now k i)
+      → (d : ReferenceClock) → x ≡ Ok d → (r : Bool) → Decides r (OneClock hosts_alike k (ref_meaning w.now d)) → Decides r (OfClock e.now k i)
   is_asked n p en ep np t et nt d f r a =
       record {
         right = λ y.

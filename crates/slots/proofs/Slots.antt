@@ -1,4 +1,5 @@
 -- There is one slot of a clock, or none, and no second answer. Assumes nothing.
+use Rattle.std.specs.Prelude.{Result, Ok, Err}
 use Prim.Native.Nat.{ℕ}
 use mathlib.Core.Path.{◌≡◌, refl, sym, ◌∙◌}
 use mathlib.Core.List.{List}
@@ -8,8 +9,6 @@ use lib.Dec.{eqb, ltb}
 use borrow.Author.Tests.{eq-eqb, ne_eqb, eqb-true, eqb-false, ltb-true, ltb-false, not-true}
 use Rattle.text.proofs.Bools.{by_bool, clash, and_left, and_right}
 use Rattle.clock.specs.declared.ReferenceClock.{ReferenceClock}
-use Rattle.clock.specs.declared.ReferenceClockRead.{ReferenceClockRead}
-use Rattle.clock.specs.declared.ReferenceClockRead.TheVariants.{Accepted, Refused}
 use Rattle.meaning.specs.ReferenceClock.{read_reference_clock}
 use Rattle.meaning.specs.Meaning.{RefMeaning, ref_meaning}
 use Rattle.equal.specs.Alike.{hosts_alike}
@@ -20,9 +19,10 @@ use Rattle.streams.specs.Sums.{first}
 use Rattle.streams.proofs.Sums.{first_tells}
 use Rattle.slots.specs.Slot.{streams_at, print_at, value_at, is_free}
 use Rattle.slots.specs.Find.{OfClock, SlotFor, SlotThere, SlotSettled}
+use Rattle.clock.specs.declared.Refusal.{Refusal}
 
 -- one value is read as one record
-pub one_record : (c d : ReferenceClock) → Accepted c ≡ Accepted d → c ≡ d
+pub one_record : (c d : ReferenceClock) → ◌≡◌ {A = Result ReferenceClock Refusal} (Ok c) (Ok d) → c ≡ d
 one_record c d e = cc (e)
 
 pub slot_settled : SlotSettled
@@ -37,9 +37,9 @@ slot_settled m k n i j a b =
 
 -- as a test
 module _ (m : List ℕ) (k : RefMeaning) where
-  abbrev reads : ReferenceClockRead → ℕ → Bool
-  reads (Accepted d) i = alike hosts_alike k (ref_meaning (value_at m i) d)
-  reads (Refused r) i = false
+  abbrev reads : Result ReferenceClock Refusal → ℕ → Bool
+  reads (Ok d) i = alike hosts_alike k (ref_meaning (value_at m i) d)
+  reads (Err r) i = false
 
   abbrev test : ℕ → Bool
   test i = not (is_free m i) && (eqb (print_at m i) (fingerprint host_print k) && reads (read_reference_clock (value_at m i)) i)
@@ -52,10 +52,10 @@ module _ (m : List ℕ) (k : RefMeaning) where
       (eqb-true (print_at m i) (fingerprint host_print k) (and_left (eqb (print_at m i) (fingerprint host_print k)) _ p))
       (and_right (eqb (print_at m i) (fingerprint host_print k)) _ p)
     where
-      go : (x : ReferenceClockRead) → read_reference_clock (value_at m i) ≡ x → is_free m i ≡ false → print_at m i ≡ fingerprint host_print k
+      go : (x : Result ReferenceClock Refusal) → read_reference_clock (value_at m i) ≡ x → is_free m i ≡ false → print_at m i ≡ fingerprint host_print k
           → reads x i ≡ true → OfClock m k i
-      go (Refused r) ex f q t = clash (cc)
-      go (Accepted d) ex f q t =
+      go (Err r) ex f q t = clash (cc)
+      go (Ok d) ex f q t =
           record {
             taken = λ z. eqb-false (streams_at m i) 0 f z;
             print = q;
@@ -84,8 +84,8 @@ slot_there m k n =
 pub slot_for : (m v : List ℕ) (n : ℕ) → (i : ℕ) × SlotFor m v n i
 slot_for m v n = go (read_reference_clock v) refl
   where
-    go : (x : ReferenceClockRead) → read_reference_clock v ≡ x → (i : ℕ) × SlotFor m v n i
-    go (Refused r) e = (n, record { named = λ k f. clash (cc (e, f)) })
-    go (Accepted c) e =
+    go : (x : Result ReferenceClock Refusal) → read_reference_clock v ≡ x → (i : ℕ) × SlotFor m v n i
+    go (Err r) e = (n, record { named = λ k f. clash (cc (e, f)) })
+    go (Ok c) e =
         let s = slot_there m (ref_meaning v c) n in
         (s.0, record { named = λ k f. let q : c ≡ k = one_record c k (sym e ∙ f) in rw (← q) s.1 })

@@ -1,7 +1,6 @@
 -- The slot of a clock. Which clock is said by what a record means.
-use Rattle.std.specs.Prelude.{ℕ, ◌≤◌, ◌<◌, ◌≡◌, List}
+use Rattle.std.specs.Prelude.{ℕ, ◌≤◌, ◌<◌, ◌≡◌, List, Ok}
 use Rattle.clock.specs.declared.ReferenceClock.{ReferenceClock}
-use Rattle.clock.specs.declared.ReferenceClockRead.TheVariants.{Accepted}
 use Rattle.meaning.specs.ReferenceClock.{read_reference_clock}
 use Rattle.meaning.specs.Meaning.{RefMeaning, ref_meaning}
 use Rattle.equal.specs.Alike.{OneClock, hosts_alike}
@@ -13,7 +12,7 @@ pub record OfClock (m : List ℕ) (k : RefMeaning) (i : ℕ) : Type 0 where
   pub taken : streams_at m i ≡ 0 → ⊥
   pub print : print_at m i ≡ fingerprint host_print k
   pub clock : ReferenceClock
-  pub reads : read_reference_clock (value_at m i) ≡ Accepted clock
+  pub reads : read_reference_clock (value_at m i) ≡ Ok clock
   pub one : OneClock hosts_alike k (ref_meaning (value_at m i) clock)
 
 -- i is the first such slot among the first n, or n where there is none
@@ -24,7 +23,7 @@ pub record SlotOf (m : List ℕ) (k : RefMeaning) (n i : ℕ) : Type 0 where
 
 -- the same of the clock that the value v names; of a refused value nothing is asked
 pub record SlotFor (m v : List ℕ) (n i : ℕ) : Type 0 where
-  pub named : (k : ReferenceClock) → read_reference_clock v ≡ Accepted k → SlotOf m (ref_meaning v k) n i
+  pub named : (k : ReferenceClock) → read_reference_clock v ≡ Ok k → SlotOf m (ref_meaning v k) n i
 
 -- there is one such i and no second. `proofs/Slots.antt` proves both
 abbrev pub SlotThere : Type 0

@@ -16,7 +16,7 @@ ghost use Rattle.slots.specs.Slot.{slot_size, most_value, slot_bytes, streams_at
 ghost use Rattle.slots.specs.Find.{OfClock, SlotOf};
 ghost use Rattle.slots.specs.Private.Start.{Start};
 
-use clock::{ReferenceClock, ReferenceClockRead};
+use clock::ReferenceClock;
 use text::Place;
 
 // How many bytes a slot has.
@@ -76,7 +76,7 @@ fn is_of_clock(memory: &[u8], i: u16, v: &[u8], clock: ReferenceClock, print: u3
     }
     let w = value_at(memory, i);
     let read = refclk::read_reference_clock(w);
-    let ReferenceClockRead::Accepted(there) = read else {
+    let Ok(there) = read else {
         return false;
     };
     equal::same_reference_clocks(v, clock, w, there)

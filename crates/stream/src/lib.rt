@@ -3,16 +3,9 @@
 
 ghost use Rattle.std.specs.Prelude.{◌≡◌};
 ghost use Rattle.meaning.specs.MediaClock.{broken_number, stream_of};
-ghost use Rattle.stream.specs.AsAnswer.{stream_answer};
 
 use clock::{Eui64, Refusal};
 use eui64::BrokenRule;
-
-#[derive(Clone, Copy)]
-pub enum StreamRead {
-    Accepted(Eui64),
-    Refused(Refusal),
-}
 
 // The number of the refusal for the rule that a text breaks.
 fn broken_number(rule: BrokenRule) -> u8
@@ -26,17 +19,15 @@ fn broken_number(rule: BrokenRule) -> u8
 }
 
 // The text starts at the place `at` of the whole value. From a place of 32 bits on no place overflows, however long the text is.
-pub fn read_stream(p: &[u8], at: u32) -> StreamRead
-    ensures { stream_answer result ≡ stream_of at p.now }
+pub fn read_stream(p: &[u8], at: u32) -> Result<Eui64, Refusal>
+    ensures { result ≡ stream_of at p.now }
 {
     match eui64::read_eui64(p) {
-        eui64::Eui64Read::Id(id) => StreamRead::Accepted(Eui64 { id }),
-        eui64::Eui64Read::Refused(fault) => {
-            let rule = fault.rule;
-            let place = fault.place;
-            let number = broken_number(rule);
-            let start = at as usize + place.start;
-            StreamRead::Refused(Refusal::new(number, start, place.len))
+        Ok(id) => Ok(Eui64 { id }),
+        Err(fault) => {
+            let number = broken_number(fault.rule);
+            let start = at as usize + fault.place.start;
+            Err(Refusal::new(number, start, fault.place.len))
         }
     }
 }

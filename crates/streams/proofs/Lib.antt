@@ -1,5 +1,4 @@
 -- The theorems of the plain list, and of a book that stands for one.
-pub mod Laws
 pub mod Lists
 pub mod Sums
 pub mod Clocks

@@ -1,12 +1,10 @@
 -- The calls on a plain list of streams: what each answers, and the list then.
-use Rattle.std.specs.Prelude.{ℕ, List, [], ◌∷◌, Bool, true, false, cond, not, ◌&&◌, ◌||◌, ltb, leb, length}
+use Rattle.std.specs.Prelude.{ℕ, List, [], ◌∷◌, Bool, true, false, cond, not, ◌&&◌, ◌||◌, ltb, leb, length, Result, ⊤, Ok, Err}
 use Rattle.streams.specs.Limits.{Limits}
 use Rattle.streams.specs.Rule.{Value, Rule}
 use Rattle.streams.specs.Streams.{Streams, number_of, without, of_clock, clocks_in, like, joined}
 use Rattle.streams.specs.declared.Uncounted.{Uncounted}
 use Rattle.streams.specs.declared.Uncounted.TheVariants.{NoMemory, TotalFull, ClocksFull, NoStream}
-use Rattle.streams.specs.declared.Verdict.{Verdict}
-use Rattle.streams.specs.declared.Verdict.TheVariants.{Done, Refused}
 
 -- the number of a refusal in the rules
 unfoldable pub refusal_number : Uncounted → ℕ
@@ -21,13 +19,13 @@ pub data Call : Type 0 where
   join : Value → Value → Call
 
 -- of reasons to refuse, in their order, the first that holds; none, and the call is done
-unfoldable pub first_of : List (Bool × Uncounted) → Verdict
-first_of [] = Done
-first_of (reason ∷ others) = cond reason.0 (Refused reason.1) (first_of others)
+unfoldable pub first_of : List (Bool × Uncounted) → Result ⊤ Uncounted
+first_of [] = (Ok tt)
+first_of (reason ∷ others) = cond reason.0 (Err reason.1) (first_of others)
 
-abbrev pub is_done : Verdict → Bool
-is_done Done = true
-is_done (Refused why) = false
+abbrev pub is_done : Result ⊤ Uncounted → Bool
+is_done (Ok tt) = true
+is_done (Err why) = false
 
 module _ (R : Rule) (L : Limits) where
   -- whether a stream of this value has a clock that is there, or can have one, or needs none
@@ -41,7 +39,7 @@ module _ (R : Rule) (L : Limits) where
   reasons (join a b) l = (not (ltb 0 (of_clock R a l) && ltb 0 (of_clock R b l)), NoStream) ∷ []
 
   -- the answer to a call that lends n bytes: too little memory is the first of all reasons
-  unfoldable pub answer : ℕ → Call → Streams → Verdict
+  unfoldable pub answer : ℕ → Call → Streams → Result ⊤ Uncounted
   answer n c l = first_of ((ltb n L.memory, NoMemory) ∷ reasons c l)
 
   -- the list after a call that is done
@@ -55,14 +53,14 @@ module _ (R : Rule) (L : Limits) where
   after n c l = cond (is_done (answer n c l)) (next c l) l
 
 -- how much a call with its answer adds to those answered "counted", and to those answered "withdrawn"
-abbrev pub counted_by : Call → Verdict → ℕ
-counted_by (count v) Done = 1
-counted_by (count v) (Refused why) = 0
+abbrev pub counted_by : Call → Result ⊤ Uncounted → ℕ
+counted_by (count v) (Ok tt) = 1
+counted_by (count v) (Err why) = 0
 counted_by (withdraw v) a = 0
 counted_by (join v w) a = 0
 
-abbrev pub withdrawn_by : Call → Verdict → ℕ
+abbrev pub withdrawn_by : Call → Result ⊤ Uncounted → ℕ
 withdrawn_by (count v) a = 0
-withdrawn_by (withdraw v) Done = 1
-withdrawn_by (withdraw v) (Refused why) = 0
+withdrawn_by (withdraw v) (Ok tt) = 1
+withdrawn_by (withdraw v) (Err why) = 0
 withdrawn_by (join v w) a = 0

@@ -1,14 +1,12 @@
 -- What the calls answer one after another on a plain list, under a rule of letters: a value names the clock of its first letter, and none is refused.
-use Rattle.std.specs.Prelude.{ℕ, refl, List, [], ◌∷◌, Bool, false, cond, eqb, ltb, length, get_or}
-use Rattle.std.proofs.Math.Option.{none, some}
+use Rattle.std.specs.Prelude.{ℕ, refl, List, [], ◌∷◌, Bool, false, cond, eqb, ltb, length, get_or, Result, ⊤, Ok, Err, Some, None}
 use Rattle.text.specs.Example.{◌gives◌, Each}
 use Rattle.text.specs.Word.{word}
 use Rattle.streams.specs.Rule.{Value, Rule}
 use Rattle.streams.specs.Limits.{Limits}
 use Rattle.streams.specs.Streams.{Streams, number_of, without, of_clock, refused_in, in_domain, clocks_in, joined}
 use Rattle.streams.specs.Calls.{Call, count, withdraw, join, refusal_number, first_of, reasons, answer, next, after}
-use Rattle.streams.specs.declared.Verdict.{Verdict}
-use Rattle.streams.specs.declared.Verdict.TheVariants.{Done, Refused}
+use Rattle.streams.specs.declared.Uncounted.{Uncounted}
 
 abbrev same_letter : Value → Value → Bool
 same_letter [] w = false
@@ -21,7 +19,7 @@ letters =
     record {
       accepted = λ v. ltb 0 (length v);
       same = same_letter;
-      domain = λ v. cond (eqb (get_or v 0 0) 120) (some 7) (cond (eqb (get_or v 0 0) 121) (some 8) none);
+      domain = λ v. cond (eqb (get_or v 0 0) 120) (Some 7) (cond (eqb (get_or v 0 0) 121) (Some 8) None);
     }
 
 -- two clocks, four streams, ten bytes of memory
@@ -29,9 +27,9 @@ abbrev few : Limits
 few = record { memory = 10; clocks = 2; streams = 4 }
 
 -- 0 where a call is done
-abbrev told : Verdict → ℕ
-told Done = 0
-told (Refused why) = refusal_number why
+abbrev told : Result ⊤ Uncounted → ℕ
+told (Ok tt) = 0
+told (Err why) = refusal_number why
 
 answers : ℕ → Streams → List Call → List ℕ
 answers n l [] = []

@@ -11,32 +11,22 @@ pub const MOST_CLOCKS: u16 = 255;
 pub const LEAST_MEMORY: usize = 270000;
 
 // How many streams there may be, those of refused values among them.
-pub const MOST_STREAMS: u32 = 4294967295;
+pub const MOST_STREAMS: u32 = u32::MAX;
 
-// Why a call is refused: the lent memory is too short; there are as many streams as may be; as many clocks; nothing there that is named.
-#[derive(Clone, Copy)]
+// Why a call is refused, with the number of the reason: the lent memory is too short; there are as many streams as may be; as many clocks; nothing
+// there that is named.
+#[derive(Clone, Copy, Debug, PartialEq, Eq)]
 pub enum Uncounted {
-    NoMemory,
-    TotalFull,
-    ClocksFull,
-    NoStream,
-}
-
-// What a call answers.
-#[derive(Clone, Copy)]
-pub enum Verdict {
-    Done,
-    Refused(Uncounted),
+    NoMemory = 24,
+    TotalFull = 26,
+    ClocksFull = 25,
+    NoStream = 27,
 }
 
 // The number of a refusal.
+#[tactic(auto, unfolding(crate::specs::Calls::refusal_number))]
 pub fn refusal_number(why: Uncounted) -> u8
     ensures { result ≡ refusal_number why }
 {
-    match why {
-        Uncounted::NoMemory => 24,
-        Uncounted::ClocksFull => 25,
-        Uncounted::TotalFull => 26,
-        Uncounted::NoStream => 27,
-    }
+    why as u8
 }

@@ -1,38 +1,29 @@
 // The totals of a report: a line counted, and the line that says them all.
-#![tactic(auto)]
+#![tactic(auto, using(room::proofs::Laws::puts))]
 
 ghost use Rattle.std.specs.Prelude.{◌≡◌, ◌≤◌, ◌++◌, length};
 ghost use Rattle.text.specs.Word.{word};
 ghost use Rattle.number.specs.Decimal.{decimal};
 ghost use Rattle.room.specs.Put.{Put};
-ghost use Rattle.report.specs.Report.{totals, totals_text};
-ghost use Rattle.report.specs.Reader.{added, counted};
+ghost use Rattle.report.specs.Report.{totals_text};
+ghost use Rattle.report.specs.Reader.{counted};
 
 use report::{Kind, Totals};
 
-// One line more, and one of its kind.
-fn add(before: Totals, ok: u32, no: u32, other: u32, long: u32) -> Totals
-    ensures { result ≡ added before (totals 1 ok no other long) }
-{
-    Totals {
-        lines: std::num::wrapping_add_u32(before.lines, 1),
-        ok: std::num::wrapping_add_u32(before.ok, ok),
-        no: std::num::wrapping_add_u32(before.no, no),
-        other: std::num::wrapping_add_u32(before.other, other),
-        long: std::num::wrapping_add_u32(before.long, long),
-    }
-}
-
 // The totals with a line more, of that kind.
+#[tactic(auto, unfolding(report::specs::Reader::counted))]
 pub fn count(before: Totals, kind: Kind) -> Totals
     ensures { result ≡ counted before kind }
 {
+    let mut all = before;
+    all.lines = all.lines.wrapping_add(1);
     match kind {
-        Kind::Accepted => add(before, 1, 0, 0, 0),
-        Kind::Refused => add(before, 0, 1, 0, 0),
-        Kind::Other => add(before, 0, 0, 1, 0),
-        Kind::Long => add(before, 0, 0, 0, 1),
+        Kind::Accepted => all.ok = all.ok.wrapping_add(1),
+        Kind::Refused => all.no = all.no.wrapping_add(1),
+        Kind::Other => all.other = all.other.wrapping_add(1),
+        Kind::Long => all.long = all.long.wrapping_add(1),
     }
+    all
 }
 
 // A word of at most 7 bytes, and a number of at most 10 digits behind it.
@@ -55,6 +46,7 @@ fn put_front(all: Totals, room: &mut [u8]) -> usize
 }
 
 // The line of the totals, from the room's front on: five items and the LF.
+#[tactic(auto, using(room::proofs::Laws::puts), unfolding(report::specs::Report::totals_text))]
 pub fn put_totals(all: Totals, room: &mut [u8]) -> usize
     ensures { Put 86 room.old 0 (totals_text all) result room.new }
 {

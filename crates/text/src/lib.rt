@@ -6,70 +6,48 @@ ghost use Rattle.text.specs.Word.{same, starts, ends_in};
 ghost use Rattle.text.specs.Place.{PartAt, bytes_at};
 
 // Where a part of a value lies in it: what a record holds in place of a text.
-#[derive(Clone, Copy)]
+#[derive(Debug, Clone, Copy, PartialEq, Eq)]
 pub struct Place {
     pub start: usize,
     pub len: usize,
 }
 
 // The bytes of `s` at a place: those that `s` has.
+#[tactic(auto, using(crate::proofs::Laws::laws))]
 pub fn part(s: &[u8], p: Place) -> &[u8]
     ensures { PartAt s.entry p result }
 {
-    let n = s.len();
-    let start = p.start;
-    let len = p.len;
-    if n <= start {
-        return &s[n..];
-    }
-    if n - start < len {
-        return &s[start..];
-    }
-    let end = start + len;
-    &s[start..end]
+    let start = p.start.min(s.len());
+    let len = p.len.min(s.len() - start);
+    &s[start..start + len]
 }
 
 // Whether two texts are the same.
+#[tactic(auto, using(crate::proofs::Laws::laws))]
 pub fn is_word(s: &[u8], w: &[u8]) -> bool
     ensures { result ≡ same s.now w.now }
 {
-    if s.len() != w.len() {
-        return false;
-    }
-    let mut i = 0;
-    while i < s.len() {
-        if s[i] != w[i] {
-            return false;
-        }
-        i += 1;
-    }
-    true
+    s == w
 }
 
 // Whether `s` begins with `w`.
+#[tactic(auto, using(crate::proofs::Laws::laws))]
 pub fn has_prefix(s: &[u8], w: &[u8]) -> bool
     ensures { result ≡ starts w.now s.now }
 {
-    let n = w.len();
-    if s.len() < n {
-        return false;
-    }
-    is_word(&s[..n], w)
+    w.len() <= s.len() && s[..w.len()].iter().zip(w).all(|(x, y)| x == y)
 }
 
 // Whether `b` is the last byte of `s`.
+#[tactic(auto, using(crate::proofs::Laws::laws))]
 pub fn ends_in(s: &[u8], b: u8) -> bool
     ensures { result ≡ ends_in b s.now }
 {
-    let n = s.len();
-    if n == 0 {
-        return false;
-    }
-    let last = n - 1;
-    s[last] == b
+    matches!(s, [.., last] if *last == b)
 }
 
 // Whether two values have the same bytes at a place of each.
+#[tactic(auto, using(crate::proofs::Laws::laws))]
 pub fn equal_parts(v: &[u8], p: Place, w: &[u8], q: Place) -> bool
     ensures { result ≡ same (bytes_at p v.now) (bytes_at q w.now) }
 {
@@ -80,5 +58,5 @@ pub fn equal_parts(v: &[u8], p: Place, w: &[u8], q: Place) -> bool
 pub fn least(a: usize, b: usize) -> usize
     ensures { result ≡ min a b }
 {
-    if a < b { a } else { b }
+    a.min(b)
 }

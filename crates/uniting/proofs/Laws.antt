@@ -1,4 +1,5 @@
 -- One law for each way out of the crate's functions. Assumes nothing.
+use Rattle.std.specs.Prelude.{Result, Ok, Err}
 use Prim.Native.Nat.{ℕ, ◌+◌, ◌*◌, ◌≤◌, ◌<◌}
 use mathlib.Core.Path.{◌≡◌, refl, sym, ap, ◌∙◌}
 use mathlib.Core.List.{List}
@@ -11,8 +12,6 @@ use borrow.Author.Tests.{eq-eqb, ne_eqb, lt-ltb, le-ltb}
 use Rattle.text.specs.Place.{Lent, PartAt}
 use Rattle.clock.specs.declared.Refusal.{Refusal}
 use Rattle.clock.specs.declared.ReferenceClock.{ReferenceClock}
-use Rattle.clock.specs.declared.ReferenceClockRead.{ReferenceClockRead}
-use Rattle.clock.specs.declared.ReferenceClockRead.TheVariants.{Accepted, Refused}
 use Rattle.meaning.specs.ReferenceClock.{read_reference_clock}
 use Rattle.meaning.specs.Meaning.{ref_meaning}
 use Rattle.equal.specs.Fingerprint.{fingerprint, host_print}
@@ -41,7 +40,7 @@ pub step_free : (m : List ℕ) (i n : ℕ) → n ≡ streams_at m i → n ≡ 0 
 step_free m i n en z = record { does = λ j s. sym (free_slot_lem m i j (eq-eqb (streams_at m i) 0 (sym en ∙ z))) }
 
 module _ (e : Lent) (i n : ℕ) (en : n ≡ streams_at e.now i) (z : n ≡ 0 → ⊥) (w : Lent) (ew : PartAt e (value_place e.now i) w)
-    (x : ReferenceClockRead) (ex : x ≡ read_reference_clock w.now) where
+    (x : Result ReferenceClock Refusal) (ex : x ≡ read_reference_clock w.now) where
   taken : is_free e.now i ≡ false
   taken = ne_eqb (streams_at e.now i) 0 (λ y. z (en ∙ y))
 
@@ -51,10 +50,10 @@ module _ (e : Lent) (i n : ℕ) (en : n ≡ streams_at e.now i) (z : n ≡ 0 →
   read_there : read_reference_clock (value_at e.now i) ≡ x
   read_there = ap read_reference_clock (sym there) ∙ sym ex
 
-  pub step_refused : (q : Refusal) → x ≡ Refused q → StepFor e.now i Stay
+  pub step_refused : (q : Refusal) → x ≡ Err q → StepFor e.now i Stay
   step_refused q f = record { does = λ j s. sym (refused_slot e.now i j taken q (read_there ∙ f)) }
 
-  module _ (k : ReferenceClock) (f : x ≡ Accepted k) (j : ℕ) (s : SlotOf e.now (ref_meaning w.now k) i j) where
+  module _ (k : ReferenceClock) (f : x ≡ Ok k) (j : ℕ) (s : SlotOf e.now (ref_meaning w.now k) i j) where
     same_slot : (y : ℕ) → SlotFor e.now (value_at e.now i) i y → j ≡ y
     same_slot y t = slot_settled e.now (ref_meaning (value_at e.now i) k) i j y (rw there at s) (t.named k (read_there ∙ f))
 

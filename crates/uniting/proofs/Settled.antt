@@ -1,4 +1,5 @@
 -- Uniting leaves one memory, and has one answer. Assumes nothing.
+use Rattle.std.specs.Prelude.{Result, Ok, Err}
 use Prim.Native.Nat.{ℕ, zero, suc, ◌≤◌, ◌<◌}
 use mathlib.Core.Path.{◌≡◌, refl, ap}
 use mathlib.Core.List.{List}
@@ -6,13 +7,10 @@ use lib.Dec.{ltb}
 use lib.ListN.{length}
 use borrow.Author.Tests.{le-ltb, lt-ltb, ltb-true, ltb-false}
 use Rattle.text.proofs.Bools.{by_bool, clash}
-use Rattle.clock.specs.declared.ReferenceClockRead.{ReferenceClockRead}
-use Rattle.clock.specs.declared.ReferenceClockRead.TheVariants.{Accepted, Refused}
 use Rattle.meaning.specs.ReferenceClock.{read_reference_clock}
 use Rattle.meaning.specs.Meaning.{ref_meaning}
 use Rattle.streams.specs.Limits.{least_memory}
 use Rattle.streams.specs.declared.Uncounted.TheVariants.{NoMemory}
-use Rattle.streams.specs.declared.Verdict.TheVariants as verdict
 use Rattle.slots.specs.Slot.{value_at}
 use Rattle.slots.specs.Find.{SlotFor}
 use Rattle.slots.proofs.Slots.{slot_settled, slot_for}
@@ -23,6 +21,8 @@ use Rattle.counts.specs.declared.Called.{Called}
 use Rattle.counts.proofs.Laws.{does_settled}
 use Rattle.uniting.specs.Uniting.{united_slot, United, none, more, unite_outcome, Unites}
 use Rattle.uniting.specs.Uniting.{RefusedUnitesNothing, UnitedThere, UnitedSettled, UnitesSettled}
+use Rattle.clock.specs.declared.ReferenceClock.{ReferenceClock}
+use Rattle.clock.specs.declared.Refusal.{Refusal}
 
 pub united_there : UnitedThere
 united_there m zero = (m, none)
@@ -36,9 +36,9 @@ slot_united : (m : List ℕ) (n i j : ℕ) → SlotFor m (value_at m n) n i → 
 unfolding united_slot
 slot_united m n i j s t = go (read_reference_clock (value_at m n)) refl
   where
-    go : (x : ReferenceClockRead) → read_reference_clock (value_at m n) ≡ x → united_slot m n i ≡ united_slot m n j
-    go (Accepted k) e = ap (united_slot m n) (slot_settled m (ref_meaning (value_at m n) k) n i j (s.named k e) (t.named k e))
-    go (Refused q) e = simp e
+    go : (x : Result ReferenceClock Refusal) → read_reference_clock (value_at m n) ≡ x → united_slot m n i ≡ united_slot m n j
+    go (Ok k) e = ap (united_slot m n) (slot_settled m (ref_meaning (value_at m n) k) n i j (s.named k e) (t.named k e))
+    go (Err q) e = simp e
 
 one_memory : {m : List ℕ} {n : ℕ} {m₁ m₂ : List ℕ} → United m n m₁ → United m n m₂ → m₁ ≡ m₂
 one_memory none none = refl

@@ -1,4 +1,5 @@
 -- What becomes of one slot. Assumes nothing.
+use Rattle.std.specs.Prelude.{Ok, Err}
 use Prim.Native.Nat.{ℕ, ◌+◌, ◌*◌, ◌≤◌, ◌<◌}
 use mathlib.Core.Path.{◌≡◌}
 use mathlib.Core.List.{List}
@@ -7,7 +8,6 @@ use lib.Seq.{sets}
 use borrow.Author.Tests.{eq-eqb, ne_eqb, lt-ltb, le-ltb}
 use Rattle.clock.specs.declared.Refusal.{Refusal}
 use Rattle.clock.specs.declared.ReferenceClock.{ReferenceClock}
-use Rattle.clock.specs.declared.ReferenceClockRead.TheVariants.{Accepted, Refused}
 use Rattle.meaning.specs.ReferenceClock.{read_reference_clock}
 use Rattle.meaning.specs.Meaning.{ref_meaning}
 use Rattle.equal.specs.Fingerprint.{fingerprint, host_print}
@@ -31,11 +31,11 @@ module _ (m : List ℕ) (i j : ℕ) where
   free_slot_lem f = simp f
 
   module _ (f : is_free m i ≡ false) where
-    pub refused_slot : (q : Refusal) → read_reference_clock (value_at m i) ≡ Refused q → united_slot m i j ≡ m
+    pub refused_slot : (q : Refusal) → read_reference_clock (value_at m i) ≡ Err q → united_slot m i j ≡ m
     unfolding united_slot
     refused_slot q e = simp (f, e)
 
-    module _ (k : ReferenceClock) (e : read_reference_clock (value_at m i) ≡ Accepted k) where
+    module _ (k : ReferenceClock) (e : read_reference_clock (value_at m i) ≡ Ok k) where
       pub known_slot : j < i → united_slot m i j ≡ joined_memory m i j
       unfolding united_slot
       known_slot h = simp (f, e, lt-ltb j i h)

@@ -1,16 +1,13 @@
 -- Uniting: the clocks of a census that are one are joined. The used slots are gone over in order. A slot whose clock is that of a slot before it gives its
 -- streams to that one, and is free then; any other gets the fingerprint of today's rule. Free slots and refused values are passed over.
-use Rattle.std.specs.Prelude.{ℕ, suc, ◌+◌, ◌*◌, ◌<◌, ◌≡◌, List, cond, eqb, ltb, length}
+use Rattle.std.specs.Prelude.{ℕ, suc, ◌+◌, ◌*◌, ◌<◌, ◌≡◌, List, cond, eqb, ltb, length, Result, Ok, Err}
 use Rattle.std.proofs.lemmas.List.Edits.{sets}
-use Rattle.clock.specs.declared.ReferenceClockRead.{ReferenceClockRead}
-use Rattle.clock.specs.declared.ReferenceClockRead.TheVariants.{Accepted, Refused}
 use Rattle.meaning.specs.ReferenceClock.{read_reference_clock}
 use Rattle.meaning.specs.Meaning.{ref_meaning}
 use Rattle.equal.specs.Fingerprint.{fingerprint, host_print}
 use Rattle.streams.specs.Limits.{least_memory}
 use Rattle.streams.specs.declared.Uncounted.{Uncounted}
 use Rattle.streams.specs.declared.Uncounted.TheVariants.{NoMemory}
-use Rattle.streams.specs.declared.Verdict.TheVariants as verdict
 use Rattle.quads.specs.Quad.{quad}
 use Rattle.slots.specs.Slot.{slot_size, print_at, value_at, is_free}
 use Rattle.slots.specs.Find.{SlotFor}
@@ -19,15 +16,17 @@ use Rattle.counts.specs.Outcome.{Outcome, leaves, refuses, Does}
 use Rattle.counts.specs.declared.Census.{Census}
 use Rattle.counts.specs.declared.Called.{Called}
 use Rattle.joining.specs.Joining.{joined_memory}
+use Rattle.clock.specs.declared.ReferenceClock.{ReferenceClock}
+use Rattle.clock.specs.declared.Refusal.{Refusal}
 
 -- the memory m in which the slot i has the fingerprint p: nothing is stored where it has it already
 unfoldable pub reprinted : List ℕ → ℕ → ℕ → List ℕ
 reprinted m i p = cond (eqb (print_at m i) p) m (sets m (i * slot_size + 4) (quad p))
 
 -- the slot i with streams of a value that was read, where j is the first slot before i of the same clock, or i
-abbrev pub united_read : List ℕ → ℕ → ℕ → ReferenceClockRead → List ℕ
-united_read m i j (Accepted k) = cond (ltb j i) (joined_memory m i j) (reprinted m i (fingerprint host_print (ref_meaning (value_at m i) k)))
-united_read m i j (Refused r) = m
+abbrev pub united_read : List ℕ → ℕ → ℕ → Result ReferenceClock Refusal → List ℕ
+united_read m i j (Ok k) = cond (ltb j i) (joined_memory m i j) (reprinted m i (fingerprint host_print (ref_meaning (value_at m i) k)))
+united_read m i j (Err r) = m
 
 unfoldable pub united_slot : List ℕ → ℕ → ℕ → List ℕ
 united_slot m i j = cond (is_free m i) m (united_read m i j (read_reference_clock (value_at m i)))
@@ -53,7 +52,7 @@ pub record UnitesNothing (c : Census) (m : List ℕ) (r : Called) (m' : List ℕ
 
 abbrev pub RefusedUnitesNothing : Type 0
 RefusedUnitesNothing =
-    (c : Census) (m : List ℕ) (r : Called) (m' : List ℕ) (why : Uncounted) → Unites c m r m' → r.verdict ≡ verdict.Refused why
+    (c : Census) (m : List ℕ) (r : Called) (m' : List ℕ) (why : Uncounted) → Unites c m r m' → r.verdict ≡ Err why
     → UnitesNothing c m r m' why
 
 -- there always is such a memory, and no second; so no second answer meets it. `proofs/Settled.antt` proves each

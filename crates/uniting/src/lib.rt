@@ -5,7 +5,6 @@ ghost use Rattle.std.specs.Prelude.{◌≡◌};
 ghost use Rattle.uniting.specs.Uniting.{reprinted, United, Unites};
 ghost use Rattle.uniting.specs.Private.Step.{StepFor, UnitesSlot};
 
-use clock::ReferenceClockRead;
 use counts::{Called, Census};
 use streams::{LEAST_MEMORY, Uncounted};
 
@@ -26,7 +25,7 @@ fn step_for(memory: &[u8], i: u16) -> Step
     }
     let v = slots::value_at(memory, i);
     let read = refclk::read_reference_clock(v);
-    let ReferenceClockRead::Accepted(clock) = read else {
+    let Ok(clock) = read else {
         return Step::Stay;
     };
     let j = slots::find(memory, i, v, clock);

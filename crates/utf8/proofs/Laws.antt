@@ -1,5 +1,6 @@
 -- One law for each way out of the two loops, and their invariants: the longest well-formed front of all is the one that going on from
 -- here finds. Assumes nothing.
+use Rattle.std.specs.Prelude.{Option, Some, None, Ok, Err}
 use Prim.Native.Nat.{ℕ, zero, suc, ◌+◌, ◌-◌, ◌≤◌, ◌<◌}
 use mathlib.Core.Path.{◌≡◌, refl, sym, ap, ◌∙◌, fun_ext}
 use mathlib.Core.List.{List, [], ◌∷◌}
@@ -16,11 +17,10 @@ use Rattle.abnf.proofs.Rules.{range_then}
 use Rattle.abnf.proofs.Many.{many_none, many_cons, then_many_lem, range_many}
 use Rattle.abnf.proofs.Longest.{furthest, furthest_more, furthest_end, furthest_none, furthest_on, longest_all}
 use Rattle.utf8.specs.declared.Lead.{Lead}
-use Rattle.utf8.specs.declared.Lead.TheVariants.{Never, Starts}
-use Rattle.utf8.specs.declared.Utf8.TheVariants.{Well, Ill}
 use Rattle.utf8.specs.Utf8.{utf8_char, utf8_octets, utf8_of}
 use Rattle.utf8.specs.Private.Lead.{tails, goes_on}
-use Rattle.utf8.specs.Private.Passes.{Passes}
+use Rattle.utf8.specs.Private.Passes.{Passes, IsFirstHigh, BeginsWith}
+use Rattle.std.specs.List.{AllWithin}
 use Rattle.utf8.proofs.Leads.{ascii_whole}
 
 -- the bytes behind a first one, and whole sequences behind them
@@ -57,7 +57,7 @@ module _ {s : List ℕ} {at : ℕ} (p : Passed (longest utf8_octets) s at) where
   unfolding longest
   check_end h = passed_all p (ap (longest utf8_octets) (none_left s at h))
 
-  module _ (l : Lead) (h : at < length s) (e : (t : List ℕ) → utf8_char (get_or s at 0 ∷ t) ≡ goes_on l t) where
+  module _ (l : Option Lead) (h : at < length s) (e : (t : List ℕ) → utf8_char (get_or s at 0 ∷ t) ≡ goes_on l t) where
     led : longest utf8_octets s ≡ furthest (at + 1) at (goes_on l then_many utf8_char) (drop (at + 1) s)
     unfolding furthest ◌then_many◌ nothing
     led =
@@ -67,12 +67,12 @@ module _ {s : List ℕ} {at : ℕ} (p : Passed (longest utf8_octets) s at) where
         ∙ (ap (λ (r : Rule). furthest (at + 1) at r (drop (at + 1) s)) (fun_ext (many_cons utf8_char (get_or s at 0)))
         ∙ ap (λ (r : Rule). furthest (at + 1) at (r then_many utf8_char) (drop (at + 1) s)) (fun_ext e))))
 
-    pub check_never : l ≡ Never → at ≡ longest utf8_octets s
+    pub check_never : l ≡ None → at ≡ longest utf8_octets s
     check_never n =
-        sym (rw n at led ∙ furthest_none (at + 1) at _ (many_none utf8_char (goes_on Never) (λ t. refl)) (drop (at + 1) s))
+        sym (rw n at led ∙ furthest_none (at + 1) at _ (many_none utf8_char (goes_on None) (λ t. refl)) (drop (at + 1) s))
 
-    pub tails_start : (more lo hi : ℕ) → l ≡ Starts more lo hi → Tails s at lo hi more (at + 1)
-    tails_start more lo hi n = record { begun = omega arith; within = omega arith; so_far = rw n at led }
+    pub tails_start : (lead : Lead) → l ≡ Some lead → Tails s at lead.low lead.high lead.more (at + 1)
+    tails_start lead n = record { begun = omega arith; within = omega arith; so_far = rw n at led }
 
 module _ {s : List ℕ} {at low high left next : ℕ} (t : Tails s at low high left next) where
   pub tails_short : 0 < left → length s ≤ next → at ≡ longest utf8_octets s
@@ -123,12 +123,41 @@ ascii_passed s i (h, e) = record { within = h; so_far = e }
 module _ {s : List ℕ} {i : ℕ} (p : Passed (longest utf8_octets) s i) where
   pub ascii_next : i < length s → get_or s i 0 < 128 → Passed (longest utf8_octets) s (i + 1)
   ascii_next h k =
-      tails_end (tails_start p (Starts 0 0x80 0xBF) h (ascii_whole (get_or s i 0) k) 0 0x80 0xBF refl) (omega arith)
+      let whole : Lead = record { more = 0; low = 0x80; high = 0xBF } in
+      tails_end (tails_start p (Some whole) h (ascii_whole (get_or s i 0) k) whole refl) (omega arith)
 
   pub ascii_part : (r : ℕ) → Passes (rest i s) r → Passed (longest utf8_octets) s (i + r)
   ascii_part r q =
       let (h, e) = rw (rest_is i s) at q in
       passed_more p r (omega (arith, length-drop i s, p.within)) (rw (drop-drop r i s) at e)
+
+-- `pass_ascii`: each byte before the first that is 128 or more
+ascii_front : (s : List ℕ) (n : ℕ) → n ≤ length s → AllWithin (λ x. x < 128) s 0 n → Passed (longest utf8_octets) s n
+ascii_front s zero h a = check_start s
+ascii_front s (suc n) h a =
+    let e : n + 1 ≡ suc n = omega arith in
+    rw e at (ascii_next (ascii_front s n (omega arith) (λ k d l m. a k d l (omega arith))) (omega arith) (a n 0 (omega arith) (omega arith)))
+
+front_passes : (s : List ℕ) (n : ℕ) → n ≤ length s → AllWithin (λ x. x < 128) s 0 n → Passes s n
+front_passes s n h a = let p = ascii_front s n h a in (p.within, p.so_far)
+
+module _ (s : List ℕ) (i : ℕ) (p : Passes s i) where
+  ascii_on : (n : ℕ) → n ≤ length (rest i s) → AllWithin (λ x. x < 128) (rest i s) 0 n → Passes s (i + n)
+  ascii_on n h a = let q = ascii_part (ascii_passed s i p) n (front_passes (rest i s) n h a) in (q.within, q.so_far)
+
+  pub ascii_some : (n : ℕ) → IsFirstHigh (rest i s) (Some n) → Passes s (i + n)
+  ascii_some n (h, a) = ascii_on n (omega arith) a
+
+  pub ascii_all : IsFirstHigh (rest i s) None → Passes s (length s)
+  ascii_all a =
+      let l : length (rest i s) ≡ length s - i = rw (rest_is i s) (length-drop i s) in
+      let e : i + length (rest i s) ≡ length s = omega (arith, p.0) in
+      rw e at (ascii_on (length (rest i s)) (omega arith) (λ k d l h. a k d h))
+
+-- `sequence_length`
+pub begins_never : (s : List ℕ) (l : Option Lead) → 0 < length s → ((t : List ℕ) → utf8_char (get_or s 0 0 ∷ t) ≡ goes_on l t) → l ≡ None
+    → (r : Option ℕ) → r ≡ None → BeginsWith s r
+begins_never s l h e n r er = rw er (sym (check_never (check_start s) l h e n))
 
 -- `pass_ascii_by_eights`
 abbrev high : ℕ → Bool
@@ -144,13 +173,19 @@ module _ (s : List ℕ) (n : ℕ) (e : n ≡ longest utf8_octets s) where
   unfolding ◌then_many◌ nothing
   all_read = rw e (longest_all utf8_octets refl s)
 
-  pub check_well : n ≡ length s → Well ≡ utf8_of s
+  pub check_well : n ≡ length s → (Ok tt) ≡ utf8_of s
   unfolding utf8_of
   check_well h = simp (all_read, eq-eqb n (length s) h)
 
-  pub check_ill : (n ≡ length s → ⊥) → Ill n ≡ utf8_of s
+  pub check_ill : (n ≡ length s → ⊥) → Err n ≡ utf8_of s
   unfolding utf8_of
-  check_ill h = simp (all_read, ne_eqb n (length s) h) (ap Ill e)
+  check_ill h = simp (all_read, ne_eqb n (length s) h) (ap Err e)
+
+-- `check_utf8`: at a place where no sequence begins the longest well-formed front ends
+pub check_stuck : {s : List ℕ} {at : ℕ} → Passed (longest utf8_octets) s at → at < length s → BeginsWith (rest at s) None → Err at ≡ utf8_of s
+check_stuck {s} {at} p h b =
+    let e : longest utf8_octets (drop at s) ≡ 0 = rw (rest_is at s) at b in
+    check_ill s at (passed_all p e) (λ z. omega arith)
 
 pub ruleset laws = (
   check_start,

@@ -1,5 +1,6 @@
 -- UTF8-char by its first byte: a table of the grammar's nine forms. Where no form's range of first bytes ends inside a zone, every byte of
 -- the zone is followed by what follows its least byte, where antt computes. Assumes nothing.
+use Rattle.std.specs.Prelude.{Option, Some}
 use Prim.Native.Nat.{ℕ, ◌≤◌, ◌<◌}
 use mathlib.Core.Path.{◌≡◌, refl, ◌∙◌}
 use mathlib.Core.List.{List, [], ◌∷◌}
@@ -10,8 +11,9 @@ use borrow.Author.Tests.{ltb-true, leb-true, le-leb, lt-leb}
 use Rattle.text.proofs.Bools.{and_left, and_right}
 use Rattle.abnf.specs.Rule.{Rule, nothing, ◌or◌}
 use Rattle.abnf.proofs.Rules.{range_first, range_then}
+use Rattle.utf8.specs.declared.Lead.{Lead}
 use Rattle.utf8.specs.Utf8.{utf8_char}
-use Rattle.utf8.specs.Private.Lead.{tails}
+use Rattle.utf8.specs.Private.Lead.{tails, goes_on}
 
 -- a form of UTF8-char: a first byte from low to high, and `more` bytes behind it, the first of them from lo to hi
 pub record Form : Type 0 where
@@ -91,6 +93,11 @@ after_zone a z b (f ∷ fs) p q h t =
 pub lead_zone : (a z : ℕ) {b : ℕ} {g : Rule} → zone a z forms ≡ true → a ≤ b → b ≤ z
     → ((t : List ℕ) → after forms a t ≡ g t) → (t : List ℕ) → utf8_char (b ∷ t) ≡ g t
 lead_zone a z {b} h p q e t = char_after b t ∙ (after_zone a z b forms p q h t ∙ e t)
+
+-- a row of the grammar, as the code answers it
+pub lead_row : (a z : ℕ) {b : ℕ} (lead : Lead) (l : Option Lead) → zone a z forms ≡ true → a ≤ b → b ≤ z → l ≡ Some lead
+    → ((t : List ℕ) → after forms a t ≡ goes_on (Some lead) t) → (t : List ℕ) → utf8_char (b ∷ t) ≡ goes_on l t
+lead_row a z lead l h p q e f t = rw e (lead_zone a z h p q f t)
 
 -- a byte below 128 is a whole UTF8-char
 pub ascii_whole : (c : ℕ) → c < 128 → (t : List ℕ) → utf8_char (c ∷ t) ≡ nothing t

@@ -1,5 +1,6 @@
 -- Laws for callers: texts joined, and cut at a byte below 128, stay well-formed, since such a byte is a UTF8-char and stands in no longer one.
 -- Assumes nothing.
+use Rattle.std.specs.Prelude.{Ok, Err}
 use Prim.Native.Nat.{ℕ, zero, suc, ◌<◌}
 use mathlib.Core.Path.{◌≡◌, refl, sym, ap, ◌∙◌, fun_ext}
 use mathlib.Core.List.{List, [], ◌∷◌, ◌++◌}
@@ -15,22 +16,21 @@ use Rattle.abnf.proofs.Rules.{Free}
 use Rattle.abnf.proofs.Free.{Lacks, lacks_nothing, lacks_range, lacks_then}
 use Rattle.abnf.proofs.Many.{many_cons, many_append, Alone, many_cut}
 use Rattle.abnf.proofs.Longest.{longest_le, longest_all}
-use Rattle.utf8.specs.declared.Utf8.TheVariants.{Well, Ill}
 use Rattle.utf8.specs.Utf8.{utf8_char, utf8_octets, utf8_of}
 use Rattle.utf8.specs.Private.Lead.{tails}
 use Rattle.utf8.proofs.Leads.{Form, forms, after, char_after, ascii_whole}
 
 -- well-formed is a text of UTF8-octets, and nothing else
-pub well_octets : (s : List ℕ) → utf8_of s ≡ Well → utf8_octets s ≡ true
+pub well_octets : (s : List ℕ) → utf8_of s ≡ (Ok tt) → utf8_octets s ≡ true
 unfolding utf8_of
 well_octets s h = by_bool (utf8_octets s) (λ e. e) (λ e. clash (cc (simp e at h)))
 
-pub octets_well : (s : List ℕ) → utf8_octets s ≡ true → utf8_of s ≡ Well
+pub octets_well : (s : List ℕ) → utf8_octets s ≡ true → utf8_of s ≡ (Ok tt)
 unfolding utf8_of
 octets_well s h = simp h
 
 -- the ill-formed sequence starts inside the text
-pub utf8_ill : (s : List ℕ) (n : ℕ) → utf8_of s ≡ Ill n → n < length s
+pub utf8_ill : (s : List ℕ) (n : ℕ) → utf8_of s ≡ Err n → n < length s
 unfolding utf8_of ◌then_many◌ nothing
 utf8_ill s n h =
     by_bool (utf8_octets s) (λ e. clash (cc (simp e at h)))
@@ -68,23 +68,23 @@ ascii_alone c h =
 ascii_front : (b : ℕ) (s : List ℕ) → b < 128 → utf8_octets (b ∷ s) ≡ utf8_octets s
 ascii_front b s h = many_cons utf8_char b s ∙ ap (λ (r : Rule). (r then_many utf8_char) s) (fun_ext (ascii_whole b h))
 
-pub utf8_none : utf8_of [] ≡ Well
+pub utf8_none : utf8_of [] ≡ (Ok tt)
 unfolding ◌then_many◌ nothing
 utf8_none = octets_well [] refl
 
-pub utf8_ascii : (b : ℕ) (s : List ℕ) → b < 128 → utf8_of s ≡ Well → utf8_of (b ∷ s) ≡ Well
+pub utf8_ascii : (b : ℕ) (s : List ℕ) → b < 128 → utf8_of s ≡ (Ok tt) → utf8_of (b ∷ s) ≡ (Ok tt)
 utf8_ascii b s h e = octets_well (b ∷ s) (ascii_front b s h ∙ well_octets s e)
 
-pub utf8_append : (x y : List ℕ) → utf8_of x ≡ Well → utf8_of y ≡ Well → utf8_of (x ++ y) ≡ Well
+pub utf8_append : (x y : List ℕ) → utf8_of x ≡ (Ok tt) → utf8_of y ≡ (Ok tt) → utf8_of (x ++ y) ≡ (Ok tt)
 utf8_append x y e f = octets_well (x ++ y) (many_append utf8_char nothing x y (well_octets x e) (well_octets y f))
 
-pub utf8_cut : (x : List ℕ) (c : ℕ) (y : List ℕ) → c < 128 → utf8_of (x ++ c ∷ y) ≡ Well → (utf8_of x ≡ Well) × (utf8_of y ≡ Well)
+pub utf8_cut : (x : List ℕ) (c : ℕ) (y : List ℕ) → c < 128 → utf8_of (x ++ c ∷ y) ≡ (Ok tt) → (utf8_of x ≡ (Ok tt)) × (utf8_of y ≡ (Ok tt))
 utf8_cut x c y h e =
     let p = many_cut c utf8_char nothing (ascii_alone c h) lacks_nothing.free x y (well_octets (x ++ c ∷ y) e) in
     (octets_well x p.0, octets_well y p.1)
 
 -- a text of bytes below 128
-pub utf8_all_ascii : (s : List ℕ) → ascii s ≡ true → utf8_of s ≡ Well
+pub utf8_all_ascii : (s : List ℕ) → ascii s ≡ true → utf8_of s ≡ (Ok tt)
 utf8_all_ascii [] h = utf8_none
 utf8_all_ascii (b ∷ s) h =
     utf8_ascii b s (ltb-true b 128 (and_left (ltb b 128) (ascii s) h)) (utf8_all_ascii s (and_right (ltb b 128) (ascii s) h))

@@ -1,8 +1,6 @@
 -- UTF-8 by the grammar of RFC 3629, section 4.
-use Rattle.std.specs.Prelude.{ℕ, cond, List}
+use Rattle.std.specs.Prelude.{ℕ, cond, List, Result, ⊤, Ok, Err}
 use Rattle.abnf.specs.Rule.{Rule, range, byte, ◌or◌, ◌then◌, many, longest}
-use Rattle.utf8.specs.declared.Utf8.{Utf8}
-use Rattle.utf8.specs.declared.Utf8.TheVariants.{Well, Ill}
 
 -- UTF8-tail = %x80-BF
 abbrev pub utf8_tail : Rule
@@ -42,5 +40,5 @@ abbrev pub utf8_octets : Rule
 utf8_octets = many utf8_char
 
 -- all of s is well-formed, or the first ill-formed sequence starts where the longest front of s that is well-formed ends
-unfoldable pub utf8_of : List ℕ → Utf8
-utf8_of s = cond (utf8_octets s) Well (Ill (longest utf8_octets s))
+unfoldable pub utf8_of : List ℕ → Result ⊤ ℕ
+utf8_of s = cond (utf8_octets s) (Ok tt) (Err (longest utf8_octets s))

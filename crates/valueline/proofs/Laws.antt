@@ -1,4 +1,5 @@
 -- One law for each way out of the functions that put a value's line into the room. Assumes nothing.
+use Rattle.std.specs.Prelude.{Result, Ok, Err}
 use Prim.Native.Nat.{ℕ, ◌+◌, ◌*◌, ◌≤◌, ◌<◌}
 use mathlib.Core.Path.{◌≡◌, refl, sym, ap, ◌∙◌}
 use mathlib.Core.List.{List, [], ◌∷◌, ◌++◌}
@@ -12,15 +13,8 @@ use Rattle.text.specs.Place.{Lent, PartAt, place, bytes_at}
 use Rattle.number.specs.Hex.{hex_bytes}
 use Rattle.clock.specs.declared.Refusal.{Refusal}
 use Rattle.clock.specs.declared.ReferenceClock.{ReferenceClock}
-use Rattle.clock.specs.declared.ReferenceClockRead.{ReferenceClockRead}
-use Rattle.clock.specs.declared.ReferenceClockRead.TheVariants as ref
 use Rattle.mediarecord.specs.declared.MediaClockSource.{MediaClockSource}
-use Rattle.mediarecord.specs.declared.MediaClockSourceRead.{MediaClockSourceRead}
-use Rattle.mediarecord.specs.declared.MediaClockSourceRead.TheVariants as media
-use Rattle.clock.specs.declared.Wrote.{Wrote}
-use Rattle.clock.specs.declared.Wrote.TheVariants as wrote
 use Rattle.clock.specs.declared.WriteRefusal.{WriteRefusal}
-use Rattle.clock.specs.declared.WriteRefusal.TheVariants as refused
 use Rattle.meaning.specs.ReferenceClock.{read_reference_clock}
 use Rattle.meaning.specs.MediaClock.{read_media_clock_source}
 use Rattle.meaning.specs.Text.{reference_clock_text, media_clock_source_text}
@@ -75,25 +69,6 @@ module _ (note text room : List ℕ) where
             ∙ sym (front_fits (ok_line note text).says room fits);
       }
 
--- `text_length`
-module _ (w : Wrote) where
-  pub length_written : (n : ℕ) → w ≡ wrote.Length n → n ≡ text_length w
-  unfolding text_length
-  length_written n e = simp e
-
-  module _ (why : WriteRefusal) (e : w ≡ wrote.Refused why) where
-    pub length_room : (n : ℕ) → why ≡ refused.Room n → n ≡ text_length w
-    unfolding text_length
-    length_room n f = simp (e, f)
-
-    pub length_value : (r : Refusal) → why ≡ refused.Value r → 0 ≡ text_length w
-    unfolding text_length
-    length_value r f = simp (e, f)
-
-    pub length_outside : why ≡ refused.Outside → 0 ≡ text_length w
-    unfolding text_length
-    length_outside f = simp (e, f)
-
 -- what stands at the front of an array, handed out as a part
 at_front : (t l : List ℕ) {n : ℕ} {array part : Lent} → n ≡ length t → array.now ≡ t ++ drop (length t) l → PartAt array (place 0 n) part → part.now ≡ t
 unfolding bytes_at
@@ -108,10 +83,10 @@ module _ {k j : ℕ} {t l : List ℕ} {array part : Lent} (e : length l ≡ k) (
   note_length = rw noted p.bound
 
 -- the text of a record just read there
-module _ {v t l : List ℕ} {inside : Bool} {a : Wrote} {n : ℕ} {array part : Lent}
+module _ {v t l : List ℕ} {inside : Bool} {a : (Result ℕ WriteRefusal)} {n : ℕ} {array part : Lent}
     (can : Writable v inside t) (e : length l ≡ 1026) (w : Writes v inside t l a array.now)
     (f : n ≡ text_length a) (is : PartAt array (place 0 n) part) where
-  wrote_all : wrote_of v inside t (length l) ≡ wrote.Length (length t)
+  wrote_all : wrote_of v inside t (length l) ≡ Ok (length t)
   unfolding wrote_of
   wrote_all =
       simp (le-ltb 1024 (length v) can.short, can.within, le-ltb (length l) (length t) (omega (arith, e, can.longer, can.short)))
@@ -119,7 +94,7 @@ module _ {v t l : List ℕ} {inside : Bool} {a : Wrote} {n : ℕ} {array part : 
   text_is : part.now ≡ t
   unfolding text_length room_after
   text_is =
-      at_front t l (f ∙ ap text_length (w.says ∙ wrote_all)) (w.leaves ∙ ap (λ (x : Wrote). room_after x t l) wrote_all) is
+      at_front t l (f ∙ ap text_length (w.says ∙ wrote_all)) (w.leaves ∙ ap (λ (x : Result ℕ WriteRefusal). room_after x t l) wrote_all) is
 
   text_short : length part.now ≤ 1026
   text_short = rw text_is (omega (arith, can.longer, can.short))
@@ -132,64 +107,60 @@ module _ {l : List ℕ} {j : ℕ} {notes note : Lent} (is : PartAt notes (place 
   pub source_note : (s : MediaClockSource) → Put 133 l 0 (media_clock_source_note s) j notes.now → length l ≡ 133 → length note.now ≤ 133
   source_note s p d = note_length d p is
 
-module _ {m : List ℕ} {n : ℕ} {a : Wrote} {texts text : Lent} (it : PartAt texts (place 0 n) text) (f : n ≡ text_length a) where
+module _ {m : List ℕ} {n : ℕ} {a : (Result ℕ WriteRefusal)} {texts text : Lent} (it : PartAt texts (place 0 n) text) (f : n ≡ text_length a) where
   pub clock_text_lem : (v : List ℕ) (c : ReferenceClock) → Writes v (reference_clock_inside v c) (reference_clock_text v c) m a texts.now → length m ≡ 1026
-      → ref.Accepted c ≡ read_reference_clock v → length text.now ≤ 1026
+      → Ok c ≡ read_reference_clock v → length text.now ≤ 1026
   clock_text_lem v c w e read = text_short (ref_writable v c read) e w f it
 
   pub source_text : (v : List ℕ) (s : MediaClockSource) → Writes v (media_clock_source_inside v s) (media_clock_source_text v s) m a texts.now
-      → length m ≡ 1026 → media.Accepted s ≡ read_media_clock_source v → length text.now ≤ 1026
+      → length m ≡ 1026 → Ok s ≡ read_media_clock_source v → length text.now ≤ 1026
   source_text v s w e read = text_short (media_writable v s read) e w f it
 
-module _ (v : List ℕ) {l m room after : List ℕ} {j n : ℕ} {a : Wrote} {x : ReplySize} {notes texts note text : Lent}
+module _ (v : List ℕ) {l m room after : List ℕ} {j n : ℕ} {a : (Result ℕ WriteRefusal)} {x : ReplySize} {notes texts note text : Lent}
     (q : Gives (ok_line note.now text.now) room x after) (is : PartAt notes (place 0 j) note)
     (it : PartAt texts (place 0 n) text) (f : n ≡ text_length a) where
   pub clock_said : (c : ReferenceClock) → Put 109 l 0 (reference_clock_note c) j notes.now → length l ≡ 109
-      → Writes v (reference_clock_inside v c) (reference_clock_text v c) m a texts.now → length m ≡ 1026 → ref.Accepted c ≡ read_reference_clock v
+      → Writes v (reference_clock_inside v c) (reference_clock_text v c) m a texts.now → length m ≡ 1026 → Ok c ≡ read_reference_clock v
       → Gives (ok_line (reference_clock_note c) (reference_clock_text v c)) room x after
   clock_said c p d w e read = rw (noted d p is, text_is (ref_writable v c read) e w f it) at q
 
   pub source_said : (s : MediaClockSource) → Put 133 l 0 (media_clock_source_note s) j notes.now → length l ≡ 133
       → Writes v (media_clock_source_inside v s) (media_clock_source_text v s) m a texts.now → length m ≡ 1026
-      → media.Accepted s ≡ read_media_clock_source v → Gives (ok_line (media_clock_source_note s) (media_clock_source_text v s)) room x after
+      → Ok s ≡ read_media_clock_source v → Gives (ok_line (media_clock_source_note s) (media_clock_source_text v s)) room x after
   source_said s p d w e read = rw (noted d p is, text_is (media_writable v s read) e w f it) at q
 
 -- `line_of_reference_clock` and `line_of_media_clock_source`
-module _ (v : List ℕ) (a : ReferenceClockRead) (is : a ≡ read_reference_clock v) where
-  pub ref_read : (c : ReferenceClock) → a ≡ ref.Accepted c → ref.Accepted c ≡ read_reference_clock v
+module _ (v : List ℕ) (a : Result ReferenceClock Refusal) (is : a ≡ read_reference_clock v) where
+  pub ref_read : (c : ReferenceClock) → a ≡ Ok c → Ok c ≡ read_reference_clock v
   ref_read c e = sym e ∙ is
 
   module _ (room after : List ℕ) (x : ReplySize) where
-    pub ref_ok : (c : ReferenceClock) → a ≡ ref.Accepted c → Gives (ok_line (reference_clock_note c) (reference_clock_text v c)) room x after
+    pub ref_ok : (c : ReferenceClock) → a ≡ Ok c → Gives (ok_line (reference_clock_note c) (reference_clock_text v c)) room x after
         → Gives (ts_refclk_line v) room x after
     unfolding ts_refclk_line
     ref_ok c e p = rw (← is, e) p
 
-    pub ref_no_lem : (r : Refusal) → a ≡ ref.Refused r → Gives (no_reply r) room x after → Gives (ts_refclk_line v) room x after
+    pub ref_no_lem : (r : Refusal) → a ≡ Err r → Gives (no_reply r) room x after → Gives (ts_refclk_line v) room x after
     unfolding ts_refclk_line
     ref_no_lem r e p = rw (← is, e) p
 
-module _ (v : List ℕ) (a : MediaClockSourceRead) (is : a ≡ read_media_clock_source v) where
-  pub media_read : (s : MediaClockSource) → a ≡ media.Accepted s → media.Accepted s ≡ read_media_clock_source v
+module _ (v : List ℕ) (a : Result MediaClockSource Refusal) (is : a ≡ read_media_clock_source v) where
+  pub media_read : (s : MediaClockSource) → a ≡ Ok s → Ok s ≡ read_media_clock_source v
   media_read s e = sym e ∙ is
 
   module _ (room after : List ℕ) (x : ReplySize) where
-    pub media_ok : (s : MediaClockSource) → a ≡ media.Accepted s → Gives (ok_line (media_clock_source_note s) (media_clock_source_text v s)) room x after
+    pub media_ok : (s : MediaClockSource) → a ≡ Ok s → Gives (ok_line (media_clock_source_note s) (media_clock_source_text v s)) room x after
         → Gives (mediaclk_line v) room x after
     unfolding mediaclk_line
     media_ok s e p = rw (← is, e) p
 
-    pub media_no_lem : (r : Refusal) → a ≡ media.Refused r → Gives (no_reply r) room x after → Gives (mediaclk_line v) room x after
+    pub media_no_lem : (r : Refusal) → a ≡ Err r → Gives (no_reply r) room x after → Gives (mediaclk_line v) room x after
     unfolding mediaclk_line
     media_no_lem r e p = rw (← is, e) p
 
 pub ruleset laws = (
   ok_short,
   ok_put,
-  length_written,
-  length_room,
-  length_value,
-  length_outside,
   clock_note,
   clock_text_lem,
   clock_said,

@@ -2,8 +2,6 @@
 #![tactic(auto)]
 
 ghost use Rattle.std.specs.Prelude.{◌≡◌, ◌≤◌, length};
-ghost use Rattle.clock.specs.declared.ReferenceClockRead.TheVariants as ref;
-ghost use Rattle.mediarecord.specs.declared.MediaClockSourceRead.TheVariants as read;
 ghost use Rattle.meaning.specs.ReferenceClock.{read_reference_clock};
 ghost use Rattle.meaning.specs.MediaClock.{read_media_clock_source};
 ghost use Rattle.meaning.specs.Text.{reference_clock_text, media_clock_source_text};
@@ -13,8 +11,8 @@ ghost use Rattle.valueline.specs.Line.{ok_line, ts_refclk_line, mediaclk_line};
 ghost use Rattle.valueline.specs.Private.Parts.{text_length};
 
 use briefreply::ReplySize;
-use clock::{ReferenceClock, ReferenceClockRead, WriteRefusal, Wrote};
-use mediarecord::{MediaClockSource, MediaClockSourceRead};
+use clock::{ReferenceClock, WriteRefusal};
+use mediarecord::MediaClockSource;
 use report::Kind;
 use text::Place;
 
@@ -45,22 +43,20 @@ fn ok_line(note: &[u8], text: &[u8], room: &mut [u8]) -> ReplySize
 
 // How long the text is that was written, or that there was no room for. A record just read is not refused for its value or its places, so 0 is
 // never given for these.
-fn text_length(wrote: Wrote) -> usize
+#[tactic(auto, unfolding(crate::specs::Private::Parts::text_length))]
+fn text_length(wrote: Result<usize, WriteRefusal>) -> usize
     ensures { result ≡ text_length wrote }
 {
     match wrote {
-        Wrote::Length(n) => n,
-        Wrote::Refused(why) => match why {
-            WriteRefusal::Room(n) => n,
-            WriteRefusal::Value(_) => 0,
-            WriteRefusal::Outside => 0,
-        },
+        Ok(n) => n,
+        Err(WriteRefusal::Room(n)) => n,
+        Err(WriteRefusal::Value(_) | WriteRefusal::Outside) => 0,
     }
 }
 
 // Of a record just read: an array of 1,026 bytes is long enough for its text.
 fn line_of_clock(clock: ReferenceClock, value: &[u8], room: &mut [u8]) -> ReplySize
-    requires { ref.Accepted clock ≡ read_reference_clock value.now }
+    requires { Ok clock ≡ read_reference_clock value.now }
     ensures { Gives (ok_line (reference_clock_note clock) (reference_clock_text value.now clock)) room.old result room.new }
 {
     let mut notes = [0u8; 109];
@@ -74,7 +70,7 @@ fn line_of_clock(clock: ReferenceClock, value: &[u8], room: &mut [u8]) -> ReplyS
 }
 
 fn line_of_source(source: MediaClockSource, value: &[u8], room: &mut [u8]) -> ReplySize
-    requires { read.Accepted source ≡ read_media_clock_source value.now }
+    requires { Ok source ≡ read_media_clock_source value.now }
     ensures { Gives (ok_line (media_clock_source_note source) (media_clock_source_text value.now source))
         room.old result room.new }
 {
@@ -92,8 +88,8 @@ pub fn line_of_reference_clock(value: &[u8], room: &mut [u8]) -> ReplySize
     ensures { Gives (ts_refclk_line value.now) room.old result room.new }
 {
     match refclk::read_reference_clock(value) {
-        ReferenceClockRead::Accepted(clock) => line_of_clock(clock, value, room),
-        ReferenceClockRead::Refused(refusal) => briefreply::reply_to_refusal(refusal, room),
+        Ok(clock) => line_of_clock(clock, value, room),
+        Err(refusal) => briefreply::reply_to_refusal(refusal, room),
     }
 }
 
@@ -101,7 +97,7 @@ pub fn line_of_media_clock_source(value: &[u8], room: &mut [u8]) -> ReplySize
     ensures { Gives (mediaclk_line value.now) room.old result room.new }
 {
     match mediaclk::read_media_clock_source(value) {
-        MediaClockSourceRead::Accepted(source) => line_of_source(source, value, room),
-        MediaClockSourceRead::Refused(refusal) => briefreply::reply_to_refusal(refusal, room),
+        Ok(source) => line_of_source(source, value, room),
+        Err(refusal) => briefreply::reply_to_refusal(refusal, room),
     }
 }

@@ -1,4 +1,5 @@
 -- One law for each way out of the crate's functions. Assumes nothing.
+use Rattle.std.specs.Prelude.{Result, Ok, Err}
 use Prim.Native.Nat.{ℕ, ◌-◌, ◌*◌, ◌≤◌, ◌<◌}
 use mathlib.Core.Path.{◌≡◌, refl, sym, ap, ◌∙◌}
 use mathlib.Core.List.{List, []}
@@ -10,8 +11,6 @@ use borrow.Author.Tests.{eq-eqb, ne_eqb, lt-ltb, le-ltb}
 use Rattle.text.proofs.Bools.{by_bool}
 use Rattle.clock.specs.declared.Refusal.{Refusal}
 use Rattle.clock.specs.declared.ReferenceClock.{ReferenceClock}
-use Rattle.clock.specs.declared.ReferenceClockRead.{ReferenceClockRead}
-use Rattle.clock.specs.declared.ReferenceClockRead.TheVariants.{Accepted, Refused}
 use Rattle.meaning.specs.ReferenceClock.{read_reference_clock}
 use Rattle.meaning.specs.Meaning.{ref_meaning}
 use Rattle.streams.specs.Limits.{least_memory}
@@ -71,8 +70,8 @@ module _ (c : Census) (m v : List ℕ) where
   unfolding withdraw_outcome
   withdraw_short h r e = record { does = λ i s. does_refuse (simp (lt-ltb (length m) least_memory h)) e }
 
-  module _ (h : least_memory ≤ length m) (x : ReferenceClockRead) (ex : x ≡ read_reference_clock v) where
-    pub withdraw_refused_lem : (q : Refusal) → x ≡ Refused q → (r : Called) → r ≡ called_with (withdraw_refused c []) c → Withdraws c m v r m
+  module _ (h : least_memory ≤ length m) (x : Result ReferenceClock Refusal) (ex : x ≡ read_reference_clock v) where
+    pub withdraw_refused_lem : (q : Refusal) → x ≡ Err q → (r : Called) → r ≡ called_with (withdraw_refused c []) c → Withdraws c m v r m
     unfolding withdraw_outcome withdraw_refused
     withdraw_refused_lem q e r er =
         record {
@@ -87,7 +86,7 @@ module _ (c : Census) (m v : List ℕ) where
               does_leave o (er ∙ simp z) refl);
         }
 
-    pub withdraw_accepted : (a : ReferenceClock) → x ≡ Accepted a → (r : Called) (m' : List ℕ) → WithdrawsClock c m v a r m' → Withdraws c m v r m'
+    pub withdraw_accepted : (a : ReferenceClock) → x ≡ Ok a → (r : Called) (m' : List ℕ) → WithdrawsClock c m v a r m' → Withdraws c m v r m'
     unfolding withdraw_outcome
     withdraw_accepted a e r m' w =
         record { does = λ i s. does_same (simp (le-ltb (length m) least_memory h, ← ex, e)) (w.does i (s.named a (sym ex ∙ e))) }

@@ -1,9 +1,7 @@
 -- Withdrawing: one stream less in the slot of the value's clock, which is free when it has none left; a refused value takes one from the refused count.
-use Rattle.std.specs.Prelude.{ℕ, ◌-◌, ◌*◌, ◌≡◌, List, cond, eqb, ltb, length}
+use Rattle.std.specs.Prelude.{ℕ, ◌-◌, ◌*◌, ◌≡◌, List, cond, eqb, ltb, length, Result, Ok, Err}
 use Rattle.std.proofs.lemmas.List.Edits.{sets}
 use Rattle.clock.specs.declared.ReferenceClock.{ReferenceClock}
-use Rattle.clock.specs.declared.ReferenceClockRead.{ReferenceClockRead}
-use Rattle.clock.specs.declared.ReferenceClockRead.TheVariants.{Accepted, Refused}
 use Rattle.meaning.specs.ReferenceClock.{read_reference_clock}
 use Rattle.streams.specs.Limits.{least_memory}
 use Rattle.streams.specs.declared.Uncounted.TheVariants.{NoMemory, NoStream}
@@ -15,6 +13,7 @@ use Rattle.counts.specs.State.{census, used_in, one_less}
 use Rattle.counts.specs.Outcome.{Outcome, leaves, refuses, Does}
 use Rattle.counts.specs.declared.Census.{Census}
 use Rattle.counts.specs.declared.Called.{Called}
+use Rattle.clock.specs.declared.Refusal.{Refusal}
 
 -- a stream of a refused value
 unfoldable pub withdraw_refused : Census → List ℕ → Outcome
@@ -28,9 +27,9 @@ withdraw_known c m k i = leaves (one_less (or_none (domain_in k)) c) (sets m (i 
 unfoldable pub withdraw_clock : Census → List ℕ → ReferenceClock → ℕ → Outcome
 withdraw_clock c m k i = cond (ltb i (used_in c)) (withdraw_known c m k i) (refuses NoStream)
 
-abbrev pub withdraw_read : Census → List ℕ → ℕ → ReferenceClockRead → Outcome
-withdraw_read c m i (Accepted k) = withdraw_clock c m k i
-withdraw_read c m i (Refused r) = withdraw_refused c m
+abbrev pub withdraw_read : Census → List ℕ → ℕ → Result ReferenceClock Refusal → Outcome
+withdraw_read c m i (Ok k) = withdraw_clock c m k i
+withdraw_read c m i (Err r) = withdraw_refused c m
 
 -- a stream of the value v, where the slot of its clock is i
 unfoldable pub withdraw_outcome : Census → List ℕ → List ℕ → ℕ → Outcome

@@ -6,7 +6,7 @@ ghost use Rattle.counts.specs.Outcome.{Does, called_with};
 ghost use Rattle.withdrawing.specs.Withdrawing.{withdraw_known, withdraw_refused, Withdraws};
 ghost use Rattle.withdrawing.specs.Private.Clock.{WithdrawsClock};
 
-use clock::{ReferenceClock, ReferenceClockRead};
+use clock::ReferenceClock;
 use counts::{Called, Census};
 use streams::{LEAST_MEMORY, Uncounted};
 
@@ -51,7 +51,7 @@ pub fn withdraw(census: Census, memory: &mut [u8], value: &[u8]) -> Called
         return counts::refused(census, Uncounted::NoMemory);
     }
     let read = refclk::read_reference_clock(value);
-    let ReferenceClockRead::Accepted(clock) = read else {
+    let Ok(clock) = read else {
         return withdraw_refused(census);
     };
     withdraw_clock(census, memory, value, clock)

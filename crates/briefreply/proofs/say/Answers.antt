@@ -3,8 +3,8 @@ use Rattle.briefreply.proofs.Laws.{laws}
 use Rattle.std.proofs.Common.{rules}
 use Rattle.briefreply.proofs.say.Goals as goal
 
-pub returns-then-room-len : goal.returns-then-room-len
-returns-then-room-len c = search (rules, laws)
+pub returns-then-len-room : goal.returns-then-len-room
+returns-then-len-room c = search (rules, laws)
 
-pub returns : goal.returns
-returns c = search (rules, laws)
+pub returns-else-len-room : goal.returns-else-len-room
+returns-else-len-room c = search (rules, laws)

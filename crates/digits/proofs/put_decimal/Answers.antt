@@ -3,8 +3,5 @@ use Rattle.digits.proofs.Laws.{laws}
 use Rattle.std.proofs.Common.{rules}
 use Rattle.digits.proofs.put_decimal.Goals as goal
 
-pub put_digits-requires : goal.put_digits-requires
-put_digits-requires c = search (rules, laws)
-
 pub returns : goal.returns
 returns c = search (rules, laws)

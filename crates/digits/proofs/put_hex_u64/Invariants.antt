@@ -2,8 +2,5 @@
 use Rattle.digits.proofs.Laws.{InHex}
 use Rattle.digits.proofs.put_hex_u64.Given as goal
 
-abbrev pub invariant-loop-first : goal.invariant-loop-first
-invariant-loop-first l = InHex l.n l.digits l.first l.left
-
-abbrev pub decreases-loop-first : goal.decreases-loop-first
-decreases-loop-first l = l.first
+abbrev pub invariant-loop-place : goal.invariant-loop-place
+invariant-loop-place l = InHex l.n l.digits l.place l.left

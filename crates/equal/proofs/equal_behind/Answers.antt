@@ -1,13 +1,13 @@
--- `equal::equal_behind` meets its contract.
+use Rattle.equal.specs.Private.Flat.{same_numbers}
 use Rattle.equal.proofs.Laws.{laws}
 use Rattle.std.proofs.Common.{rules}
 use Rattle.equal.proofs.equal_behind.Goals as goal
+use Rattle.equal.proofs.equal_behind.Goals.{then-eq, else-eq}
 
-pub returns-then-not-equal_numbers : goal.returns-then-not-equal_numbers
-returns-then-not-equal_numbers c = search (rules, laws)
+pub returns-then-equal_parts : goal.returns-then-equal_parts
+unfolding same_numbers
+returns-then-equal_parts c = elim c.if-eq.branch [ then-eq w ↦ search (rules, laws) | else-eq w ↦ search (rules, laws) ]
 
-pub returns-then-not-equal_parts : goal.returns-then-not-equal_parts
-returns-then-not-equal_parts c = search (rules, laws)
-
-pub returns : goal.returns
-returns c = search (rules, laws)
+pub returns-else-equal_parts : goal.returns-else-equal_parts
+unfolding same_numbers
+returns-else-equal_parts c = elim c.if-eq.branch [ then-eq w ↦ search (rules, laws) | else-eq w ↦ search (rules, laws) ]

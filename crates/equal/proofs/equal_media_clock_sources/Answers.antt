@@ -1,10 +1,9 @@
--- `equal::equal_media_clock_sources` meets its contract.
 use Rattle.equal.proofs.Laws.{laws}
 use Rattle.std.proofs.Common.{rules}
 use Rattle.equal.proofs.equal_media_clock_sources.Goals as goal
 
-pub returns-then-not-equal_parts : goal.returns-then-not-equal_parts
-returns-then-not-equal_parts c = search (rules, laws)
+pub returns-then-equal_parts : goal.returns-then-equal_parts
+returns-then-equal_parts c = search (rules, laws)
 
-pub returns : goal.returns
-returns c = search (rules, laws)
+pub returns-else-equal_parts : goal.returns-else-equal_parts
+returns-else-equal_parts c = search (rules, laws)

@@ -1,25 +1,13 @@
--- `hostprint::mix_folded` meets its contract: what is left is mixed into what was mixed so far.
-use Rattle.hostprint.proofs.Laws.{laws}
+-- `hostprint::mix_folded` meets its contract: each byte is mixed as its small letter.
 use Rattle.std.proofs.Common.{rules}
+use Rattle.std.proofs.lemmas.Iterator.{YieldsList-from_slice}
+use Rattle.std.proofs.lemmas.Iterator.Consumers.{fold_from_yields_List}
+use Rattle.hosts.specs.Server.{lower}
+use Rattle.hostprint.specs.Mixed.{mixed}
+use Rattle.hostprint.proofs.Laws.{folding}
 use Rattle.hostprint.proofs.mix_folded.Goals as goal
 
-pub loop-i-init : goal.loop-i-init
-loop-i-init c = search (rules, laws)
-
-pub bounds-s-i : goal.bounds-s-i
-bounds-s-i c = search (rules, laws)
-
-pub mix_letter-so_far-requires : goal.mix_letter-so_far-requires
-mix_letter-so_far-requires c = search (rules, laws)
-
-pub overflow_add-i : goal.overflow_add-i
-overflow_add-i c = search (rules, laws)
-
-pub loop-i-smaller : goal.loop-i-smaller
-loop-i-smaller c = search (rules, laws)
-
-pub loop-i-preserved : goal.loop-i-preserved
-loop-i-preserved c = search (rules, laws)
-
 pub returns : goal.returns
-returns c = search (rules, laws)
+returns c =
+    folding c.args.n c.args.s.now c.fold.result
+    (fold_from_yields_List _ (λ m b. mixed m (lower b)) _ _ c.fold.ensures.ran (YieldsList-from_slice c.args.s.now (cc)) (λ a x b q k. search rules))

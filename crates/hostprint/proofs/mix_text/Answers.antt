@@ -1,25 +1,12 @@
--- `hostprint::mix_text` meets its contract: what is left is mixed into what was mixed so far.
-use Rattle.hostprint.proofs.Laws.{laws}
+-- `hostprint::mix_text` meets its contract: each byte is mixed as it stands.
 use Rattle.std.proofs.Common.{rules}
+use Rattle.std.proofs.lemmas.Iterator.{YieldsList-from_slice}
+use Rattle.std.proofs.lemmas.Iterator.Consumers.{fold_from_yields_List}
+use Rattle.hostprint.specs.Mixed.{mixed}
+use Rattle.hostprint.proofs.Laws.{mixing}
 use Rattle.hostprint.proofs.mix_text.Goals as goal
 
-pub loop-i-init : goal.loop-i-init
-loop-i-init c = search (rules, laws)
-
-pub bounds-s-i : goal.bounds-s-i
-bounds-s-i c = search (rules, laws)
-
-pub mix_byte-so_far-requires : goal.mix_byte-so_far-requires
-mix_byte-so_far-requires c = search (rules, laws)
-
-pub overflow_add-i : goal.overflow_add-i
-overflow_add-i c = search (rules, laws)
-
-pub loop-i-smaller : goal.loop-i-smaller
-loop-i-smaller c = search (rules, laws)
-
-pub loop-i-preserved : goal.loop-i-preserved
-loop-i-preserved c = search (rules, laws)
-
 pub returns : goal.returns
-returns c = search (rules, laws)
+returns c =
+    mixing c.args.n c.args.s.now c.fold.result
+    (fold_from_yields_List _ (λ m k. mixed m k) _ _ c.fold.ensures.ran (YieldsList-from_slice c.args.s.now (cc)) (λ a x b q k. search rules))

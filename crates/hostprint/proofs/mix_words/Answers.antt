@@ -1,28 +1,12 @@
--- `hostprint::mix_words` meets its contract: what is left is mixed into what was mixed so far.
-use Rattle.hostprint.proofs.Laws.{laws}
+-- `hostprint::mix_words` meets its contract: each word is mixed as it stands.
 use Rattle.std.proofs.Common.{rules}
+use Rattle.std.proofs.lemmas.Iterator.{YieldsList-from_slice}
+use Rattle.std.proofs.lemmas.Iterator.Consumers.{fold_from_yields_List}
+use Rattle.hostprint.specs.Mixed.{mixed}
+use Rattle.hostprint.proofs.Laws.{mixing}
 use Rattle.hostprint.proofs.mix_words.Goals as goal
 
-pub loop-i-init : goal.loop-i-init
-loop-i-init c = search (rules, laws)
-
-pub offset_bounds-words-i : goal.offset_bounds-words-i
-offset_bounds-words-i c = search (rules, laws)
-
-pub bounds-words-i : goal.bounds-words-i
-bounds-words-i c = search (rules, laws)
-
-pub mix_word-so_far-requires : goal.mix_word-so_far-requires
-mix_word-so_far-requires c = search (rules, laws)
-
-pub overflow_add-i : goal.overflow_add-i
-overflow_add-i c = search (rules, laws)
-
-pub loop-i-smaller : goal.loop-i-smaller
-loop-i-smaller c = search (rules, laws)
-
-pub loop-i-preserved : goal.loop-i-preserved
-loop-i-preserved c = search (rules, laws)
-
 pub returns : goal.returns
-returns c = search (rules, laws)
+returns c =
+    mixing c.args.n c.args.words c.fold.result
+    (fold_from_yields_List _ (λ m k. mixed m k) _ _ c.fold.ensures.ran (YieldsList-from_slice c.args.words (cc)) (λ a x b q k. search rules))

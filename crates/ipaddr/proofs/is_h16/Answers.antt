@@ -1,34 +1,19 @@
--- `ipaddr::is_h16` meets its contract: after the lengths, what is left decides.
-use Rattle.ipaddr.proofs.Groups.{laws}
-use Rattle.std.proofs.Common.{rules}
+-- `ipaddr::is_h16` meets its contract: after the lengths, the digits decide.
+use Rattle.ipaddr.proofs.Groups.{h16_hex, h16_laws}
+use Rattle.std.proofs.Common.{rules, arith}
+use Rattle.std.proofs.lemmas.Iterator.{YieldsList-from_slice}
+use Rattle.std.proofs.lemmas.Iterator.Search.{all_from_yields_List}
+use Rattle.number.specs.Hex.{hex_digit}
 use Rattle.ipaddr.proofs.is_h16.Goals as goal
+use lib.Dec.{ltb}
 
-pub returns-then-s-eq0 : goal.returns-then-s-eq0
-returns-then-s-eq0 c = search (rules, laws)
+pub returns-in-1-to-4 : goal.returns-in-1-to-4
+returns-in-1-to-4 c =
+    h16_hex c.args.s.now c.all.result (omega arith) (omega arith)
+    (all_from_yields_List (λ x. ltb (hex_digit x) 16) _ _ _ c.all.ensures.ran (YieldsList-from_slice c.args.s.now (cc)) (λ x b q k. search rules))
 
-pub returns-then-s-gt4 : goal.returns-then-s-gt4
-returns-then-s-gt4 c = search (rules, laws)
+pub returns-in_default : goal.returns-in_default
+returns-in_default c = search (rules, h16_laws)
 
-pub loop-i-init : goal.loop-i-init
-loop-i-init c = search (rules, laws)
-
-pub bounds-s-i : goal.bounds-s-i
-bounds-s-i c = search (rules, laws)
-
-pub hex_digit-requires : goal.hex_digit-requires
-hex_digit-requires c = search (rules, laws)
-
-pub returns-then-hex_digit-ge16 : goal.returns-then-hex_digit-ge16
-returns-then-hex_digit-ge16 c = search (rules, laws)
-
-pub overflow_add-i : goal.overflow_add-i
-overflow_add-i c = search (rules, laws)
-
-pub loop-i-smaller : goal.loop-i-smaller
-loop-i-smaller c = search (rules, laws)
-
-pub loop-i-preserved : goal.loop-i-preserved
-loop-i-preserved c = search (rules, laws)
-
-pub returns : goal.returns
-returns c = search (rules, laws)
+pub returns-in_default-2 : goal.returns-in_default-2
+returns-in_default-2 c = search (rules, h16_laws)

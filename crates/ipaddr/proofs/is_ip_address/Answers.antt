@@ -4,17 +4,11 @@ use Rattle.ipaddr.proofs.Fits.{first_laws}
 use Rattle.std.proofs.Common.{rules}
 use Rattle.ipaddr.proofs.is_ip_address.Goals as goal
 
-pub returns-then-s-eq0 : goal.returns-then-s-eq0
-returns-then-s-eq0 c = search (rules, laws, first_laws)
-
-pub returns-then-first-gt102 : goal.returns-then-first-gt102
-returns-then-first-gt102 c = search (rules, laws, first_laws)
-
-pub returns-then-first-eq91 : goal.returns-then-first-eq91
-returns-then-first-eq91 c = search (rules, laws, first_laws)
+pub returns-then-matches : goal.returns-then-matches
+returns-then-matches c = search (rules, laws, first_laws)
 
 pub returns-then-is_ipv4_address : goal.returns-then-is_ipv4_address
 returns-then-is_ipv4_address c = search (rules, laws, first_laws)
 
-pub returns : goal.returns
-returns c = search (rules, laws, first_laws)
+pub returns-else-is_ipv4_address : goal.returns-else-is_ipv4_address
+returns-else-is_ipv4_address c = search (rules, laws, first_laws)

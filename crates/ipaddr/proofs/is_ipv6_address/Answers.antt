@@ -6,8 +6,8 @@ use Rattle.ipaddr.proofs.is_ipv6_address.Goals as goal
 pub returns-then-s-gap : goal.returns-then-s-gap
 returns-then-s-gap c = search (rules, laws)
 
-pub slice_bounds-count_groups-end : goal.slice_bounds-count_groups-end
-slice_bounds-count_groups-end c = search (rules, laws)
+pub returns-in_default : goal.returns-in_default
+returns-in_default c = search (rules, laws)
 
 pub slice_bounds-count_groups-count : goal.slice_bounds-count_groups-count
 slice_bounds-count_groups-count c = search (rules, laws)
@@ -15,8 +15,11 @@ slice_bounds-count_groups-count c = search (rules, laws)
 pub slice_bounds-count_groups-start : goal.slice_bounds-count_groups-start
 slice_bounds-count_groups-start c = search (rules, laws)
 
-pub returns-then-right-gt7 : goal.returns-then-right-gt7
-returns-then-right-gt7 c = search (rules, laws)
+pub returns-in_default-count_groups : goal.returns-in_default-count_groups
+returns-in_default-count_groups c = search (rules, laws)
 
-pub returns : goal.returns
-returns c = search (rules, laws)
+pub returns-then-right-le7 : goal.returns-then-right-le7
+returns-then-right-le7 c = search (rules, laws)
+
+pub returns-else-right-le7 : goal.returns-else-right-le7
+returns-else-right-le7 c = search (rules, laws)

@@ -1,4 +1,4 @@
--- `ipnumber::no_words` meets its contract: count 9, and zeros.
+-- `ipnumber::no_words` meets its contract: no number, and zeros.
 use Rattle.ipnumber.proofs.Held.{laws}
 use Rattle.std.proofs.Common.{rules}
 use Rattle.ipnumber.proofs.no_words.Goals as goal

@@ -3,9 +3,6 @@ use Rattle.ipnumber.proofs.Held.{laws}
 use Rattle.std.proofs.Common.{rules}
 use Rattle.ipnumber.proofs.push.Goals as goal
 
-pub returns-then-x-gt65535 : goal.returns-then-x-gt65535
-returns-then-x-gt65535 c = search (rules, laws)
-
 pub returns-then-at-gt7 : goal.returns-then-at-gt7
 returns-then-at-gt7 c = search (rules, laws)
 

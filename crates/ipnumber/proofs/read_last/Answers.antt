@@ -1,16 +1,16 @@
 -- `ipnumber::read_last` meets its contract: a law for each way out.
-use Rattle.ipnumber.proofs.Groups.{group_laws}
+use Rattle.ipnumber.proofs.Groups.{last_laws}
 use Rattle.std.proofs.Common.{rules}
 use Rattle.ipnumber.proofs.read_last.Goals as goal
 
-pub returns-then-x-lt65536 : goal.returns-then-x-lt65536
-returns-then-x-lt65536 c = search (rules, group_laws)
+pub returns-in_err-read_octets-in-None : goal.returns-in_err-read_octets-in-None
+returns-in_err-read_octets-in-None c = search (rules, last_laws)
 
-pub returns-then-not-four : goal.returns-then-not-four
-returns-then-not-four c = search (rules, group_laws)
+pub returns-in-Some : goal.returns-in-Some
+returns-in-Some c = search (rules, last_laws)
 
-pub returns-then-octets-eq4 : goal.returns-then-octets-eq4
-returns-then-octets-eq4 c = search (rules, group_laws)
+pub returns-in_ok-read_octets-in-None : goal.returns-in_ok-read_octets-in-None
+returns-in_ok-read_octets-in-None c = search (rules, last_laws)
 
-pub returns : goal.returns
-returns c = search (rules, group_laws)
+pub returns-in-None-2 : goal.returns-in-None-2
+returns-in-None-2 c = search (rules, last_laws)

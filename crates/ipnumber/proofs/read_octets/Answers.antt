@@ -1,19 +1,24 @@
--- `ipnumber::read_octets` meets its contract: the octets before `at` are held.
-use Rattle.ipnumber.proofs.Octets.{octet_laws}
-use Rattle.std.proofs.Common.{rules}
+-- `ipnumber::read_octets` meets its contract: the octets before the place are read.
+use Rattle.ipnumber.proofs.Octets.{octets_next, octet_laws}
+use Rattle.std.proofs.Common.{rules, arith}
 use Rattle.ipnumber.proofs.read_octets.Goals as goal
 
-pub loop-w-init : goal.loop-w-init
-loop-w-init c = search (rules, octet_laws)
+pub loop-i-init : goal.loop-i-init
+loop-i-init c = search (rules, octet_laws)
 
-pub returns-then-s-at : goal.returns-then-s-at
-returns-then-s-at c = search (rules, octet_laws)
+pub returns-then-rest-n : goal.returns-then-rest-n
+returns-then-rest-n c = search (rules, octet_laws)
 
-pub returns-then-w-gt3 : goal.returns-then-w-gt3
-returns-then-w-gt3 c = search (rules, octet_laws)
+pub returns-in_err-next : goal.returns-in_err-next
+returns-in_err-next c = search (rules, octet_laws)
 
-pub loop-w-preserved : goal.loop-w-preserved
-loop-w-preserved c = search (rules, octet_laws)
+pub loop-i-preserved : goal.loop-i-preserved
+loop-i-preserved c =
+    octets_next c.loop-i.invariant c.find-n.result (omega arith) c.find-n.ensures (omega arith) c.octet.result c.octet.ensures c.in_ok-next.next
+    c.in_ok-next.was
+
+pub returns-in_err-octets : goal.returns-in_err-octets
+returns-in_err-octets c = search (rules, octet_laws)
 
 pub returns : goal.returns
 returns c = search (rules, octet_laws)

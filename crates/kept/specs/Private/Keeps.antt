@@ -1,7 +1,6 @@
 -- A census beside its memory keeps the streams of a plain list: it holds them, and their slots are found.
-use Rattle.std.specs.Prelude.{ℕ, ◌<◌, ◌≡◌, List, false}
+use Rattle.std.specs.Prelude.{ℕ, ◌<◌, ◌≡◌, List, false, Ok}
 use Rattle.clock.specs.declared.ReferenceClock.{ReferenceClock}
-use Rattle.clock.specs.declared.ReferenceClockRead.TheVariants.{Accepted}
 use Rattle.meaning.specs.ReferenceClock.{read_reference_clock}
 use Rattle.meaning.specs.Meaning.{ref_meaning}
 use Rattle.equal.specs.Fingerprint.{fingerprint, host_print}
@@ -15,7 +14,7 @@ use Rattle.kept.specs.Holds.{Holds}
 -- each slot with streams, of the first n, has the fingerprint of its value's clock
 abbrev pub Prints : List ℕ → ℕ → Type 0
 Prints m n =
-    (i : ℕ) → i < n → is_free m i ≡ false → (k : ReferenceClock) → read_reference_clock (value_at m i) ≡ Accepted k
+    (i : ℕ) → i < n → is_free m i ≡ false → (k : ReferenceClock) → read_reference_clock (value_at m i) ≡ Ok k
     → print_at m i ≡ fingerprint host_print (ref_meaning (value_at m i) k)
 
 pub record Keeps (R : Rule) (c : Census) (m : List ℕ) (l : Streams) : Type 0 where

@@ -3,8 +3,5 @@ use Rattle.mediatext.proofs.Laws.{laws}
 use Rattle.std.proofs.Common.{rules}
 use Rattle.mediatext.proofs.put_id.Goals as goal
 
-pub returns-in-NoId : goal.returns-in-NoId
-returns-in-NoId c = search (rules, laws)
-
-pub returns-in-SomeId : goal.returns-in-SomeId
-returns-in-SomeId c = search (rules, laws)
+pub returns-in-Some : goal.returns-in-Some
+returns-in-Some c = search (rules, laws)

@@ -3,8 +3,5 @@ use Rattle.mediatext.proofs.Laws.{laws}
 use Rattle.std.proofs.Common.{rules}
 use Rattle.mediatext.proofs.put_rate.Goals as goal
 
-pub returns-in-NoRate : goal.returns-in-NoRate
-returns-in-NoRate c = search (rules, laws)
-
-pub returns-in-SomeRate : goal.returns-in-SomeRate
-returns-in-SomeRate c = search (rules, laws)
+pub returns-in-Some : goal.returns-in-Some
+returns-in-Some c = search (rules, laws)

@@ -3,8 +3,8 @@ use Rattle.ptp.proofs.Laws.{laws}
 use Rattle.std.proofs.Common.{rules}
 use Rattle.ptp.proofs.read_version.Goals as goal
 
-pub returns-then-n-eq0 : goal.returns-then-n-eq0
-returns-then-n-eq0 c = search (rules, laws)
+pub returns-then-is_empty : goal.returns-then-is_empty
+returns-then-is_empty c = search (rules, laws)
 
 pub returns-then-is_word : goal.returns-then-is_word
 returns-then-is_word c = search (rules, laws)

@@ -2,6 +2,5 @@ use Rattle.quads.proofs.Laws.{laws}
 use Rattle.std.proofs.Common.{rules}
 use Rattle.quads.proofs.put_number.Goals as goal
 
--- src/lib.rt:34:1
 pub returns : goal.returns
 returns c = search (rules, laws)

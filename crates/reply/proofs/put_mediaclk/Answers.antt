@@ -6,8 +6,8 @@ use Rattle.reply.proofs.put_mediaclk.Goals as goal
 pub put_ok_source-requires : goal.put_ok_source-requires
 put_ok_source-requires c = search (rules, laws)
 
-pub returns-in-Accepted : goal.returns-in-Accepted
-returns-in-Accepted c = search (rules, laws)
+pub returns-in-Ok : goal.returns-in-Ok
+returns-in-Ok c = search (rules, laws)
 
-pub returns-in-Refused : goal.returns-in-Refused
-returns-in-Refused c = search (rules, laws)
+pub returns-in-Err : goal.returns-in-Err
+returns-in-Err c = search (rules, laws)

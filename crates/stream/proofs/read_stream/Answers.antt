@@ -6,8 +6,8 @@ use Rattle.stream.proofs.read_stream.Goals as goal
 pub overflow_add-start : goal.overflow_add-start
 overflow_add-start c = search (rules, laws)
 
-pub returns-in-Id : goal.returns-in-Id
-returns-in-Id c = search (rules, laws)
+pub returns-in-Ok : goal.returns-in-Ok
+returns-in-Ok c = search (rules, laws)
 
-pub returns-in-Refused : goal.returns-in-Refused
-returns-in-Refused c = search (rules, laws)
+pub returns-in-Err : goal.returns-in-Err
+returns-in-Err c = search (rules, laws)

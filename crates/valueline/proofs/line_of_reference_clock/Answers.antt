@@ -6,8 +6,8 @@ use Rattle.valueline.proofs.line_of_reference_clock.Goals as goal
 pub line_of_clock-requires : goal.line_of_clock-requires
 line_of_clock-requires c = search (rules, laws)
 
-pub returns-in-Accepted : goal.returns-in-Accepted
-returns-in-Accepted c = search (rules, laws)
+pub returns-in-Ok : goal.returns-in-Ok
+returns-in-Ok c = search (rules, laws)
 
-pub returns-in-Refused : goal.returns-in-Refused
-returns-in-Refused c = search (rules, laws)
+pub returns-in-Err : goal.returns-in-Err
+returns-in-Err c = search (rules, laws)

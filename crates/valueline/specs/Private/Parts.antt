@@ -1,7 +1,5 @@
 -- What a private function answers.
-use Rattle.std.specs.Prelude.{ℕ}
-use Rattle.clock.specs.declared.Wrote.{Wrote}
-use Rattle.clock.specs.declared.Wrote.TheVariants as wrote
+use Rattle.std.specs.Prelude.{ℕ, Result, Ok, Err}
 use Rattle.clock.specs.declared.WriteRefusal.{WriteRefusal}
 use Rattle.clock.specs.declared.WriteRefusal.TheVariants as refused
 
@@ -11,6 +9,6 @@ needed_length (refused.Room n) = n
 needed_length (refused.Value r) = 0
 needed_length refused.Outside = 0
 
-unfoldable pub text_length : Wrote → ℕ
-text_length (wrote.Length n) = n
-text_length (wrote.Refused why) = needed_length why
+unfoldable pub text_length : Result ℕ WriteRefusal → ℕ
+text_length (Ok n) = n
+text_length (Err why) = needed_length why

@@ -6,5 +6,5 @@ use Rattle.recordnotes.proofs.media.put_id_kind.Goals as goal
 pub returns-then-src : goal.returns-then-src
 returns-then-src c = search (rules, laws)
 
-pub returns : goal.returns
-returns c = search (rules, laws)
+pub returns-else-src : goal.returns-else-src
+returns-else-src c = search (rules, laws)

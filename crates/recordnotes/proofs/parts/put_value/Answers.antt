@@ -3,8 +3,8 @@ use Rattle.recordnotes.proofs.PartsLaws.{laws}
 use Rattle.std.proofs.Common.{rules}
 use Rattle.recordnotes.proofs.parts.put_value.Goals as goal
 
-pub returns-in-NoValue : goal.returns-in-NoValue
-returns-in-NoValue c = search (rules, laws)
+pub returns-in-None : goal.returns-in-None
+returns-in-None c = search (rules, laws)
 
-pub returns-in-SomeValue : goal.returns-in-SomeValue
-returns-in-SomeValue c = search (rules, laws)
+pub returns-in-Some : goal.returns-in-Some
+returns-in-Some c = search (rules, laws)

@@ -1,2 +1,0 @@
--- What the reader of this crate answers, in the terms of the rules.
-pub mod AsAnswer

@@ -1,0 +1,7 @@
+-- What becomes of the bytes that are held.
+use Rattle.std.specs.Prelude.{◌≡◌, ℕ, List, ◌++◌, Option}
+use Rattle.std.specs.Io.KnownBytes.{Appends}
+
+-- some of their front, or nothing, is printed, and the rest is still held
+abbrev pub PrintsFront : Option (List ℕ) → Option (List ℕ) → List ℕ → List ℕ → Type 0
+PrintsFront old new held left = (text : List ℕ) × Appends old new text × (text ++ left ≡ held)

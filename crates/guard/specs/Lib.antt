@@ -1,2 +1,0 @@
--- What the guard answers, in the terms of the rules.
-pub mod AsAnswer

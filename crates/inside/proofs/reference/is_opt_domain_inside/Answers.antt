@@ -1,7 +1,0 @@
--- `inside::reference::is_opt_domain_inside` meets its contract: each arm answers what the definition says of that case.
-use Rattle.inside.proofs.Laws.{laws}
-use Rattle.std.proofs.Common.{rules}
-use Rattle.inside.proofs.reference.is_opt_domain_inside.Goals as goal
-
-pub returns-in-SomeDomain : goal.returns-in-SomeDomain
-returns-in-SomeDomain c = search (rules, laws)

@@ -1,2 +1,0 @@
--- What only private functions and proofs need: it need not be believed.
-pub mod Byte

@@ -1,7 +1,0 @@
--- `tally::put_front` meets its contract: three items, one behind another.
-use Rattle.tally.proofs.Laws.{laws}
-use Rattle.std.proofs.Common.{rules}
-use Rattle.tally.proofs.put_front.Goals as goal
-
-pub returns : goal.returns
-returns c = search (rules, laws)
