@@ -1,11 +1,11 @@
 // Frames that are read one after another from an input.
 #![tactic(auto)]
 
-ghost use Rattle.std.specs.Prelude.{◌≡◌, true, false, ◌++◌, List, ℕ, length, IfOk, OnOk, IfErr};
+ghost use Rattle.std.specs.Prelude.{◌≡◌, ◌<◌, ◌≤◌, true, false, ◌++◌, List, ℕ, length, IfOk, OnOk, IfErr};
 ghost use Rattle.std.specs.Int.{w16, w32, from_be_bytes};
 ghost use Rattle.std.specs.Io.KnownBytes.{Consumes};
 ghost use Rattle.frames.specs.declared.Stop.TheVariants as stop;
-ghost use Rattle.frames.specs.Reading.{Stops, StopsWithin};
+ghost use Rattle.frames.specs.Reading.{EndsWithin, Stops, StopsWithin};
 
 use std::io;
 use std::io::Read;
@@ -74,8 +74,9 @@ pub fn read_more<R: Read>(input: &mut R, more: &mut [u8]) -> Result<(), Stop>
 
 // A number of four bytes, the high one first.
 pub fn read_number<R: Read>(input: &mut R) -> Result<u32, Stop>
-    ensures { IfOk result (λ n. (bytes : List ℕ) × Consumes (R.remaining input.old) (R.remaining input.new) bytes
+    ensures number { IfOk result (λ n. (bytes : List ℕ) × Consumes (R.remaining input.old) (R.remaining input.new) bytes
         × (length bytes ≡ 4) × (n ≡ from_be_bytes w32 bytes)) }
+    ensures stop { IfErr result (EndsWithin (R.remaining input.new)) }
 {
     let mut bytes = [0u8; 4];
     read_more(input, &mut bytes)?;
@@ -88,7 +89,9 @@ pub fn read_bytes<'a, R: Read>(
     room: &'a mut [u8],
     len: usize,
 ) -> Result<&'a [u8], Stop>
-    ensures { IfOk result (λ bytes. Consumes (R.remaining input.old) (R.remaining input.new) bytes.now × (length bytes.now ≡ len)) }
+    ensures bytes { IfOk result (λ bytes. Consumes (R.remaining input.old) (R.remaining input.new) bytes.now × (length bytes.now ≡ len)) }
+    ensures stop { len ≤ length room.old → IfErr result (EndsWithin (R.remaining input.new)) }
+    ensures no_room { length room.old < len → (result ≡ Err stop.Cut) × (input.new ≡ input.old) }
 {
     if room.len() < len {
         return Err(Stop::Cut);
@@ -100,10 +103,91 @@ pub fn read_bytes<'a, R: Read>(
 
 // A value: its length in two bytes, the high one first, and its bytes.
 pub fn read_value<'a, R: Read>(input: &mut R, room: &'a mut [u8]) -> Result<&'a [u8], Stop>
-    ensures { IfOk result (λ value. (head : List ℕ) × Consumes (R.remaining input.old) (R.remaining input.new) (head ++ value.now)
+    ensures value { IfOk result (λ value. (head : List ℕ) × Consumes (R.remaining input.old) (R.remaining input.new) (head ++ value.now)
         × (length head ≡ 2) × (length value.now ≡ from_be_bytes w16 head)) }
+    ensures stop { 65535 ≤ length room.old → IfErr result (EndsWithin (R.remaining input.new)) }
 {
     let mut length = [0u8; 2];
     read_more(input, &mut length)?;
     read_bytes(input, room, u16::from_be_bytes(length) as usize)
+}
+
+#[cfg(test)]
+mod tests {
+    use super::*;
+    use std::io::{ErrorKind, Write};
+
+    // Gives a byte a call, so many times, and then fails.
+    #[derive(Drop)]
+    struct Failing {
+        left: u8,
+    }
+
+    impl Read for Failing {
+        fn read(&mut self, buf: &mut [u8]) -> io::Result<usize> {
+            if buf.is_empty() {
+                return Ok(0);
+            }
+            if self.left == 0 {
+                return Err(io::Error::from(ErrorKind::Other));
+            }
+            self.left -= 1;
+            buf[0] = 0;
+            Ok(1)
+        }
+    }
+
+    #[test]
+    fn an_input_ends_before_a_frame_or_within_it(rt: HostRuntime) {
+        let mut head = [0u8; 2];
+        let mut input: &[u8] = b"abc";
+        assert!(rt; read_head(&mut input, &mut head).is_ok());
+        assert!(rt; head == *b"ab");
+        assert!(rt; matches!(read_head(&mut input, &mut head), Err(Stop::Cut)));
+        assert!(rt; matches!(read_head(&mut input, &mut head), Err(Stop::End)));
+        assert!(rt; matches!(read_more(&mut input, &mut head), Err(Stop::Cut)));
+        assert!(rt;
+            matches!(
+                read_head(&mut Failing { left: 1 }, &mut head),
+                Err(Stop::Broken(_))
+            )
+        );
+    }
+
+    #[test]
+    fn values_are_read(rt: HostRuntime) {
+        let mut room = [0u8; 3];
+        let mut input: &[u8] = b"\x00\x03abc\x00\x00\x00\x04abcd";
+        assert!(rt; matches!(read_value(&mut input, &mut room), Ok(b"abc")));
+        assert!(rt; matches!(read_value(&mut input, &mut room), Ok(b"")));
+        assert!(rt; matches!(read_value(&mut input, &mut room), Err(Stop::Cut)));
+        assert!(rt; input == b"abcd".as_slice());
+        assert!(rt; matches!(read_number(&mut input), Ok(0x61626364)));
+        assert!(rt; matches!(read_value(&mut Failing { left: 2 }, &mut room), Ok(b"")));
+        assert!(rt;
+            matches!(
+                read_value(&mut Failing { left: 1 }, &mut room),
+                Err(Stop::Broken(_))
+            )
+        );
+    }
+
+    #[test]
+    fn what_is_held_is_printed(rt: HostRuntime) -> io::Result<()> {
+        let mut out = Vec::new(rt.alloc());
+        let mut held = Held::new();
+        write!(held, "filled {} ", 2)?;
+        held.put_hex(b"\x0a\xff");
+        held.print_much(&mut out, 14)?;
+        held.print_for(&mut out, 65536 - 13)?;
+        assert!(rt; out.is_empty());
+        held.print_for(&mut out, 65536 - 12)?;
+        assert!(rt; out.as_slice() == b"filled 2 0aff".as_slice());
+        writeln!(held)?;
+        held.print_much(&mut out, 1)?;
+        assert!(rt; out.as_slice() == b"filled 2 0aff\n".as_slice());
+        held.print(&mut out)?;
+        assert!(rt; out.len() == 14);
+        Ok(())
+    }
 }

@@ -1,7 +1,8 @@
 // What is printed for frames, held until it is much: a writer into memory of a fixed size.
-ghost use Rattle.std.specs.Prelude.{◌≡◌, ℕ, ◌+◌, ◌*◌, ◌≤◌, List, [], ◌++◌, length, take, IsOk, OnOk, Some};
+ghost use Rattle.std.specs.Prelude.{◌≡◌, ℕ, ◌+◌, ◌*◌, ◌<◌, ◌≤◌, List, [], ◌++◌, length, take, IsOk, OnOk, OnErr, Some};
 ghost use Rattle.std.specs.Io.{WritesAtMost};
 ghost use Rattle.std.specs.Io.KnownBytes.{Appends, Keeps, WriteAppends};
+ghost use Rattle.console.specs.Moved.{AppendsFront};
 ghost use Rattle.number.specs.Hex.{hex_bytes};
 ghost use Rattle.frames.specs.Output.{PrintsFront};
 
@@ -44,7 +45,8 @@ impl Held {
 
     // All of it is printed.
     pub fn print<W: Write>(&mut self, out: &mut W) -> io::Result<()>
-        ensures { OnOk result ((self.new ≡ []) × Appends (W.contents out.old) (W.contents out.new) self.old) }
+        ensures ok { OnOk result ((self.new ≡ []) × Appends (W.contents out.old) (W.contents out.new) self.old) }
+        ensures err { OnErr result ((self.new ≡ self.old) × AppendsFront (W.contents out.old) (W.contents out.new) self.old) }
     {
         console::write_all(out, &self.room[..self.len])?;
         self.len = 0;
@@ -53,7 +55,8 @@ impl Held {
 
     // It is printed where it is much.
     pub fn print_much<W: Write>(&mut self, out: &mut W, much: usize) -> io::Result<()>
-        ensures { OnOk result (PrintsFront (W.contents out.old) (W.contents out.new) self.old self.new) }
+        ensures printed { OnOk result (PrintsFront (W.contents out.old) (W.contents out.new) self.old self.new) }
+        ensures little { OnOk result (0 < much → length self.new < much) }
     {
         if self.len < much {
             return Ok(());
