@@ -5,6 +5,8 @@
 // the first 4,294,967,295 frames are read.
 #![tactic(auto)]
 
+ghost use Rattle.std.specs.Prelude.{◌≡◌, ◌+◌, IfOk};
+
 use briefreply::ReplySize;
 use console::write_all;
 use frames::{Held, Stop};
@@ -135,7 +137,10 @@ fn answer(out: &mut impl Write, ask: Ask, room: &mut [u8], held: &mut Held) -> i
     Ok(line.told)
 }
 
-fn answer_all(input: &mut impl Read, out: &mut impl Write) -> io::Result<Counts> {
+// Every frame that is counted is one that was accepted, refused or asked.
+fn answer_all(input: &mut impl Read, out: &mut impl Write) -> io::Result<Counts>
+    ensures { IfOk result (λ c. c.ok + c.no + c.asked ≡ c.frames) }
+{
     let mut first = console::large_buffer();
     let mut second = console::large_buffer();
     let mut room = console::large_buffer();

@@ -3,11 +3,12 @@
 #![tactic(auto)]
 
 ghost use Rattle.std.specs.Prelude.{◌≡◌, ◌≤◌, length};
+ghost use Rattle.std.specs.Io.Take.{take_limit};
 
 use console::write_all;
 use roll::Roll;
 use std::io;
-use std::io::{Read, Write};
+use std::io::{Read, Take, Write};
 
 // How many bytes a text may have: of a longer input no more are read.
 const MOST_READ: u64 = 4294967295;
@@ -106,8 +107,10 @@ fn take_last(roll: Roll, memory: &mut [u8], open: &OpenLine) -> Roll {
     roll::take_line(roll, memory, open.kept())
 }
 
-fn take_text(input: impl Read + Drop, memory: &mut [u8]) -> io::Result<Roll> {
-    let mut input = input.take(MOST_READ);
+// No more bytes are read than a text may have.
+fn take_text<R: Read + Drop>(mut input: Take<R>, memory: &mut [u8]) -> io::Result<Roll>
+    requires { take_limit input ≤ 4294967295 }
+{
     let mut space = fragment();
     let mut open = OpenLine::new();
     let mut roll = roll::start();
@@ -143,7 +146,7 @@ fn print(out: &mut impl Write, errors: &mut impl Write, roll: Roll, memory: &[u8
 
 fn main(rt: HostRuntime) {
     let mut memory = slots();
-    match take_text(rt.stdin(), &mut memory) {
+    match take_text(rt.stdin().take(MOST_READ), &mut memory) {
         Ok(roll) => print(&mut rt.stdout(), &mut rt.stderr(), roll, &memory),
         Err(_) => say_broken(&mut rt.stderr()),
     }

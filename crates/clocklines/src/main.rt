@@ -1,12 +1,13 @@
 // Prints an answer for each line of standard input, which is read in fragments, and the totals.
 #![tactic(auto)]
 
-ghost use Rattle.std.specs.Prelude.{◌≡◌, length};
+ghost use Rattle.std.specs.Prelude.{◌≡◌, ◌≤◌, length};
+ghost use Rattle.std.specs.Io.Take.{take_limit};
 
 use console::write_all;
 use lines::Unfed;
 use std::io;
-use std::io::{ErrorKind, Read, Write};
+use std::io::{ErrorKind, Read, Take, Write};
 
 // How many bytes are read at a time at most.
 fn fragment() -> [u8; 8192]
@@ -34,12 +35,13 @@ fn write_filling(
     }
 }
 
-// Of a longer input only so many bytes are read.
-fn print_report(input: impl Read + Drop, out: &mut impl Write) -> io::Result<()> {
+// No more bytes are read than a text may have.
+fn print_report<R: Read + Drop>(mut input: Take<R>, out: &mut impl Write) -> io::Result<()>
+    requires { take_limit input ≤ 4294967295 }
+{
     let mut memory = lines::open_line();
     let mut space = fragment();
     let mut room = output();
-    let mut input = input.take(lines::MOST_READ as u64);
     let mut state = lines::start();
     for _ in 0..lines::MOST_READ {
         let n = input.read(&mut space)?;
@@ -55,7 +57,9 @@ fn print_report(input: impl Read + Drop, out: &mut impl Write) -> io::Result<()>
 }
 
 fn main(rt: HostRuntime) {
-    if print_report(rt.stdin(), &mut rt.stdout()).is_err() {
+    // of a longer input only so many bytes are read
+    let input = rt.stdin().take(lines::MOST_READ as u64);
+    if print_report(input, &mut rt.stdout()).is_err() {
         // a report that is not whole has no totals, and says so
         let _ = write_all(
             &mut rt.stderr(),

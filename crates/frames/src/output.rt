@@ -1,10 +1,10 @@
 // What is printed for frames, held until it is much: a writer into memory of a fixed size.
-ghost use Rattle.std.specs.Prelude.{◌≡◌, ℕ, ◌+◌, ◌*◌, ◌<◌, ◌≤◌, List, [], ◌++◌, length, take, IsOk, OnOk, OnErr, Some};
+ghost use Rattle.std.specs.Prelude.{◌≡◌, ℕ, ◌+◌, ◌*◌, ◌-◌, ◌<◌, ◌≤◌, min, List, [], ◌++◌, length, take, IsOk, IfOk, OnOk, OnErr, Some};
 ghost use Rattle.std.specs.Io.{WritesAtMost};
 ghost use Rattle.std.specs.Io.KnownBytes.{Appends, Keeps, WriteAppends};
 ghost use Rattle.console.specs.Moved.{AppendsFront};
 ghost use Rattle.number.specs.Hex.{hex_bytes};
-ghost use Rattle.frames.specs.Output.{PrintsFront};
+ghost use Rattle.frames.specs.Output.{PrintsFront, PrintsFrom};
 
 use std::io;
 use std::io::Write;
@@ -57,6 +57,8 @@ impl Held {
     pub fn print_much<W: Write>(&mut self, out: &mut W, much: usize) -> io::Result<()>
         ensures printed { OnOk result (PrintsFront (W.contents out.old) (W.contents out.new) self.old self.new) }
         ensures little { OnOk result (0 < much → length self.new < much) }
+        ensures much { OnOk result (PrintsFrom much (W.contents out.old) (W.contents out.new) self.old self.new) }
+        ensures err { OnErr result ((self.new ≡ self.old) × AppendsFront (W.contents out.old) (W.contents out.new) self.old) }
     {
         if self.len < much {
             return Ok(());
@@ -68,6 +70,8 @@ impl Held {
     pub fn print_for<W: Write>(&mut self, out: &mut W, len: usize) -> io::Result<()>
         ensures printed { OnOk result (PrintsFront (W.contents out.old) (W.contents out.new) self.old self.new) }
         ensures fits { OnOk result (len ≤ 65536 → length self.new + len ≤ 65536) }
+        ensures much { OnOk result (PrintsFrom (65537 - len) (W.contents out.old) (W.contents out.new) self.old self.new) }
+        ensures err { OnErr result ((self.new ≡ self.old) × AppendsFront (W.contents out.old) (W.contents out.new) self.old) }
     {
         if len <= self.room.len() - self.len {
             return Ok(());
@@ -83,6 +87,7 @@ impl Write for Held {
     fn write(&mut self, bytes: &[u8]) -> io::Result<usize>
         ensures bound { WritesAtMost result bytes.now }
         ensures bytes { WriteAppends (Some self.old) (Some self.new) result bytes.now }
+        ensures room { IfOk result (λ n. n ≡ min (length bytes.now) (65536 - length self.old)) }
         ensures ok { IsOk result }
     {
         let n = bytes.len().min(self.room.len() - self.len);

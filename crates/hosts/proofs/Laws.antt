@@ -1,5 +1,5 @@
 -- One law for each way out of the crate's functions. Assumes nothing.
-use Prim.Native.Nat.{ℕ}
+use Prim.Native.Nat.{ℕ, ◌+◌, ◌<◌, ◌≤◌}
 use native.Mathlib.Omega.{arith}
 use mathlib.Core.Path.{◌≡◌, refl, sym, ap, ◌∙◌}
 use mathlib.Core.Bool.{Bool, true, false, ◌&&◌}
@@ -15,6 +15,7 @@ use Rattle.std.specs.Cmp.Lexicographic.{pointwise}
 use Rattle.std.specs.Prelude.{nat_eq}
 use denote.Enum.Bare.{sameb}
 use Rattle.ipnumber.specs.contracts.Family.{the_type}
+use Rattle.number.proofs.Laws.{inside, below, above}
 use Rattle.text.specs.Word.{same}
 use Rattle.text.proofs.Bools.{by_bool, clash, both_ways}
 use Rattle.text.proofs.Cuts.{same_eq, same_refl}
@@ -26,6 +27,21 @@ use Rattle.hosts.specs.Server.{lower, folded, alike_by, one_server}
 use Rattle.hosts.proofs.Owed.{servers_sorted}
 
 -- `lower`
+pub capital : (b : ℕ) → 65 ≤ b → b ≤ 90 → b + 32 ≡ lower b
+unfolding lower
+capital b h k = rw (inside 65 90 b h k) refl
+
+pub below_capitals : (b : ℕ) → b < 65 → b ≡ lower b
+unfolding lower
+below_capitals b h = rw (below 65 90 b h) refl
+
+pub behind_capitals : (b : ℕ) → 90 < b → b ≡ lower b
+unfolding lower
+behind_capitals b h = rw (above 65 90 b h) refl
+
+pub ruleset letters = (capital, below_capitals, behind_capitals)
+
+-- std's small letters are those of the definition
 pub lower_is : (b : ℕ) → to_ascii_lowercase b ≡ lower b
 unfolding lower
 lower_is b =
@@ -37,9 +53,6 @@ lower_is b =
     (λ f. let m = leb-true b 90 f in rw (f, lt-ltb b 91 (omega arith)))
     (λ f. let m = leb-false b 90 f in rw (f, le-ltb b 91 (omega arith)))))
     (λ e. let l = leb-false 65 b e in rw (e, lt-ltb b 65 (omega arith)))
-
-pub lowered : (b r : ℕ) → r ≡ to_ascii_lowercase b → r ≡ lower b
-lowered b r e = e ∙ lower_is b
 
 -- `one_server`
 pub equal_hosts : (s t : List ℕ) (r : Bool) → r ≡ same s t → r ≡ true → true ≡ one_server s t
@@ -133,4 +146,4 @@ unfolding one_server
 both_addresses s t x y ex ey a b ea eb r e =
     e ∙ numbers_are (ip_address_of s) (ip_address_of t) a b (same (folded s) (folded t)) (sym ea ∙ ex) (sym eb ∙ ey)
 
-pub ruleset laws = (lowered, equal_hosts, first_no_address, second_no_address, both_addresses)
+pub ruleset laws = (equal_hosts, first_no_address, second_no_address, both_addresses)

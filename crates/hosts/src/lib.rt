@@ -5,10 +5,14 @@ ghost use Rattle.std.specs.Prelude.{◌≡◌};
 ghost use Rattle.hosts.specs.Server.{lower as small, one_server};
 
 // A letter from `A` to `Z` as its small one, and any other byte as it is.
+#[tactic(auto, using(crate::proofs::Laws::letters))]
 pub fn lower(b: u8) -> u8
     ensures { result ≡ small b }
 {
-    b.to_ascii_lowercase()
+    match b {
+        b'A'..=b'Z' => b + 32,
+        _ => b,
+    }
 }
 
 // Whether two hosts name one server. Hosts of equal bytes are not read.

@@ -3,7 +3,7 @@
 
 ghost use Rattle.std.specs.Prelude.{◌≡◌, ◌+◌, ◌^◌, ◌≤◌, ◌<◌, length, take, drop, true, false, MatchOption, IfSome};
 ghost use Rattle.text.specs.Find.{before};
-ghost use Rattle.text.specs.Place.{place};
+ghost use Rattle.text.specs.Place.{place, PartAt};
 ghost use Rattle.text.specs.Word.{starts};
 ghost use Rattle.clock.specs.Refusal.{refusal};
 
@@ -38,7 +38,8 @@ impl<'a> Part<'a> {
 
     // The first n bytes, or all where there are fewer.
     pub fn front(self, n: usize) -> Part<'a>
-        ensures { (result.at ≡ self.entry.at) × (result.text.now ≡ take n self.entry.text.now) }
+        ensures text { (result.at ≡ self.entry.at) × (result.text.now ≡ take n self.entry.text.now) }
+        ensures there { PartAt self.entry.text (place 0 n) result.text }
     {
         let n = n.min(self.text.len());
         Part {
@@ -52,6 +53,7 @@ impl<'a> Part<'a> {
         ensures text { result.text.now ≡ drop n self.entry.text.now }
         ensures within { n ≤ length self.entry.text.now → result.at ≡ self.entry.at + n }
         ensures over { length self.entry.text.now ≤ n → result.at ≡ self.entry.at + length self.entry.text.now }
+        ensures there { PartAt self.entry.text (place n (length self.entry.text.now)) result.text }
     {
         let n = n.min(self.text.len());
         Part {
@@ -63,8 +65,9 @@ impl<'a> Part<'a> {
     // What stands behind `word`, where the text begins with it.
     #[tactic(auto, using(text::proofs::Cuts::starts_long))]
     pub fn strip_prefix(self, word: &[u8]) -> Option<Part<'a>>
-        ensures { MatchOption result (starts word.now self.entry.text.now ≡ false) (λ p. (starts word.now self.entry.text.now ≡ true)
+        ensures text { MatchOption result (starts word.now self.entry.text.now ≡ false) (λ p. (starts word.now self.entry.text.now ≡ true)
             × (p.at ≡ self.entry.at + length word.now) × (p.text.now ≡ drop (length word.now) self.entry.text.now)) }
+        ensures there { IfSome result (λ p. PartAt self.entry.text (place (length word.now) (length self.entry.text.now)) p.text) }
     {
         if !text::has_prefix(self.text, word) {
             return None;
@@ -79,6 +82,8 @@ impl<'a> Part<'a> {
         ensures front { IfSome result (λ c. (c.0.at ≡ self.entry.at) × (c.0.text.now ≡ take (before b self.entry.text.now) self.entry.text.now)) }
         ensures behind { IfSome result (λ c. (c.1.at ≡ self.entry.at + (before b self.entry.text.now + 1))
             × (c.1.text.now ≡ drop (before b self.entry.text.now + 1) self.entry.text.now)) }
+        ensures there { IfSome result (λ c. PartAt self.entry.text (place 0 (before b self.entry.text.now)) c.0.text
+            × PartAt self.entry.text (place (before b self.entry.text.now + 1) (length self.entry.text.now)) c.1.text) }
     {
         let i = search::find(self.text, b);
         if self.text.len() <= i {

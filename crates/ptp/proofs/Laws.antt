@@ -1,7 +1,7 @@
 -- What each reader of the crate comes to on each way through it. Assumes nothing.
-use Rattle.std.specs.Prelude.{Result, Some, None, Ok, Err}
+use Rattle.std.specs.Prelude.{Some, None, Ok, Err}
 use Prim.Native.Nat.{ℕ, ◌+◌, ◌≤◌, ◌<◌}
-use mathlib.Core.Path.{◌≡◌, refl, sym, ap, ◌∙◌}
+use mathlib.Core.Path.{◌≡◌, refl, sym, ◌∙◌}
 use mathlib.Core.List.{List}
 use mathlib.Core.Bool.{Bool, true, false}
 use lib.ListN.{length, take, drop}
@@ -11,15 +11,12 @@ use Rattle.text.specs.Find.{before}
 use Rattle.text.specs.Word.{word, same}
 use Rattle.text.specs.declared.Place.{Place}
 use Rattle.text.specs.Place.{place}
-use Rattle.text.proofs.Left.{rest, rest_is}
-use Rattle.text.proofs.Cuts.{before_le, before_length, cut_length}
+use Rattle.text.proofs.Cuts.{same_eq}
 use Rattle.number.specs.Decimal.{number_of}
-use Rattle.number.specs.declared.Reason.{Reason}
 use Rattle.number.proofs.Laws.{number_le}
 use Rattle.eui64.specs.Eui64.{eui64_of}
-use Rattle.eui64.specs.declared.Fault.{Fault}
 use Rattle.clock.specs.Refusal.{refusal}
-use Rattle.clock.specs.Records.{ptp, eui64}
+use Rattle.clock.specs.Records.{ptp}
 use Rattle.clock.specs.declared.Refusal.{Refusal}
 use Rattle.clock.specs.declared.PtpVersion.TheVariants.{Ieee1588_2002, Ieee1588_2008, Ieee8021As_2011, Ext}
 use Rattle.clock.specs.declared.Eui64.{Eui64}
@@ -37,24 +34,29 @@ module _ (at : ℕ) (s : List ℕ) (t0 : Bool) (e0 : t0 ≡ empty s) where
   unfolding version_of
   version_empty f r er = simp (← e0, f, er)
 
-  module _ (f0 : t0 ≡ false) (t1 : Bool) (e1 : t1 ≡ same s (word "IEEE1588-2002")) where
-    pub version_2002 : t1 ≡ true → Ok Ieee1588_2002 ≡ version_of at s
-    unfolding version_of
-    version_2002 f = simp (← e0, f0, ← e1, f)
+  module _ (f0 : t0 ≡ false) (t1 : Bool) (e1 : t1 ≡ same s (word "IEEE1588-2008")) where
+    -- what is the one word is not the other, which the rules try first
+    not_2002 : t1 ≡ true → same s (word "IEEE1588-2002") ≡ false
+    unfolding same
+    not_2002 f = rw (same_eq s (word "IEEE1588-2008") (sym e1 ∙ f)) refl
 
-    module _ (f1 : t1 ≡ false) (t2 : Bool) (e2 : t2 ≡ same s (word "IEEE1588-2008")) where
-      pub version_2008 : t2 ≡ true → Ok Ieee1588_2008 ≡ version_of at s
+    pub version_2008 : t1 ≡ true → Ok Ieee1588_2008 ≡ version_of at s
+    unfolding version_of
+    version_2008 f = simp (← e0, f0, not_2002 f, ← e1, f)
+
+    module _ (f1 : t1 ≡ false) (t2 : Bool) (e2 : t2 ≡ same s (word "IEEE1588-2002")) where
+      pub version_2002 : t2 ≡ true → Ok Ieee1588_2002 ≡ version_of at s
       unfolding version_of
-      version_2008 f = simp (← e0, f0, ← e1, f1, ← e2, f)
+      version_2002 f = simp (← e0, f0, ← e2, f)
 
       module _ (f2 : t2 ≡ false) (t3 : Bool) (e3 : t3 ≡ same s (word "IEEE802.1AS-2011")) where
         pub version_2011 : t3 ≡ true → Ok Ieee8021As_2011 ≡ version_of at s
         unfolding version_of
-        version_2011 f = simp (← e0, f0, ← e1, f1, ← e2, f2, ← e3, f)
+        version_2011 f = simp (← e0, f0, ← e2, f2, ← e1, f1, ← e3, f)
 
         pub version_own : t3 ≡ false → (p : Place) → p ≡ place at (length s) → Ok (Ext p) ≡ version_of at s
         unfolding version_of
-        version_own f p ep = simp (← e0, f0, ← e1, f1, ← e2, f2, ← e3, f, ep)
+        version_own f p ep = simp (← e0, f0, ← e2, f2, ← e1, f1, ← e3, f, ep)
 
 -- `read_domain`
 module _ (at : ℕ) (s : List ℕ) where

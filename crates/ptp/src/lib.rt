@@ -10,17 +10,18 @@ ghost use Rattle.meaning.specs.ReferenceClock.{version_of, gmid_of, server_of, p
 use clock::{Eui64, Ptp, PtpDomain, PtpServer, PtpVersion, Refusal};
 use part::Part;
 
+// What AES67 and SMPTE ST 2110 name is asked for first.
 fn read_version(p: Part) -> Result<PtpVersion, Refusal>
     ensures { result ≡ version_of p.entry.at p.entry.text.now }
 {
     if p.text.is_empty() {
         return Err(p.refused(7));
     }
-    if text::is_word(p.text, b"IEEE1588-2002") {
-        return Ok(PtpVersion::Ieee1588_2002);
-    }
     if text::is_word(p.text, b"IEEE1588-2008") {
         return Ok(PtpVersion::Ieee1588_2008);
+    }
+    if text::is_word(p.text, b"IEEE1588-2002") {
+        return Ok(PtpVersion::Ieee1588_2002);
     }
     if text::is_word(p.text, b"IEEE802.1AS-2011") {
         return Ok(PtpVersion::Ieee8021As_2011);
@@ -79,6 +80,7 @@ fn read_server(p: Part) -> Result<PtpServer, Refusal>
 }
 
 // The version up to the first `:`, then the server. The text stands at the place 4, behind the `ptp=`.
+#[inline(never)]
 #[tactic(auto, using(crate::proofs::Laws::laws))]
 pub fn read_ptp(p: &[u8]) -> Result<Ptp, Refusal>
     ensures { result ≡ ptp_of bare 4 p.now }

@@ -24,18 +24,18 @@ pub struct GoverningPlace {
     pub place: Place,
 }
 
-// Whether two values name the same clock.
+// Whether two values name the same clock. Where the first is refused the second is not read.
 #[tactic(auto, using(crate::proofs::Laws::both_accepted))]
 pub fn same_clock(a: &[u8], b: &[u8]) -> bool
     ensures { Decides result (SameClock a.now b.now) }
 {
-    match (
-        refclk::read_reference_clock(a),
-        refclk::read_reference_clock(b),
-    ) {
-        (Ok(c), Ok(d)) => equal::same_reference_clocks(a, c, b, d),
-        _ => false,
-    }
+    let Ok(c) = refclk::read_reference_clock(a) else {
+        return false;
+    };
+    let Ok(d) = refclk::read_reference_clock(b) else {
+        return false;
+    };
+    equal::same_reference_clocks(a, c, b, d)
 }
 
 // Behind the first `:`, up to the next or the end.

@@ -27,6 +27,7 @@ fn put_known(kind: Kind, text: &[u8], room: &mut [u8]) -> ReplySize
     ReplySize { kind, len }
 }
 
+#[cold]
 fn put_no(refusal: Refusal, room: &mut [u8]) -> ReplySize
     ensures { Puts (no_reply refusal) room.old result room.new }
 {
@@ -82,6 +83,7 @@ fn put_mediaclk(value: &[u8], room: &mut [u8]) -> ReplySize
     }
 }
 
+#[cold]
 fn put_reply(line: &[u8], room: &mut [u8]) -> ReplySize
     ensures { Puts (reply_to line.now) room.old result room.new }
 {

@@ -26,7 +26,8 @@ pub fn count(before: Totals, kind: Kind) -> Totals
     all
 }
 
-// A word of at most 7 bytes, and a number of at most 10 digits behind it.
+// A word of at most 7 bytes, and a number of at most 10 digits behind it. It is called five times, once a text: one copy of it is enough.
+#[inline(never)]
 fn put_item(room: &mut [u8], at: usize, word: &[u8], n: u32) -> usize
     requires { length word.now ≤ 7 }
     ensures { Put 17 room.old at (word.now ++ decimal n) result room.new }

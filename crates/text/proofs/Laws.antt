@@ -3,10 +3,9 @@ use Rattle.std.specs.Bool.{Decides}
 use Prim.Native.Nat.{ℕ, suc, ◌+◌, ◌-◌, ◌≤◌, ◌<◌, min}
 use mathlib.Core.Path.{◌≡◌, refl, sym, ap, ◌∙◌}
 use mathlib.Core.List.{List, [], ◌∷◌}
-use mathlib.Core.Bool.{Bool, true, false, ◌&&◌, and-false}
+use mathlib.Core.Bool.{Bool, true, false, and-false}
 use native.Mathlib.Omega.{arith}
 use lib.Dec.{eqb, ltb}
-use lib.Pointwise.{pointwise}
 use lib.ListN.{length, get_or, drop, take, length-drop, length-take}
 use lib.Seq.{take_all, drop-length}
 use borrow.Author.Tests.{eq-eqb, ne_eqb, ltb-true, ltb-false}
@@ -17,7 +16,7 @@ use Rattle.text.proofs.Bools.{by_bool, both_ways}
 use Rattle.text.proofs.Cuts.{same_eq, same_refl}
 use Rattle.text.proofs.Left.{none_left}
 
--- `is_word`: what std says of two slices
+-- `is_word`
 pub same_lengths : (s w : List ℕ) → (length s ≡ length w → ⊥) → false ≡ same s w
 unfolding same
 same_lengths [] [] h = absurd (h refl)
@@ -25,20 +24,12 @@ same_lengths [] (y ∷ w) h = refl
 same_lengths (x ∷ s) [] h = refl
 same_lengths (x ∷ s) (y ∷ w) h = simp (← same_lengths s w (λ e. h (ap suc e)), and-false)
 
-pub pointwise_same : (s w : List ℕ) → pointwise eqb s w ≡ same s w
-unfolding same
-pointwise_same [] [] = refl
-pointwise_same [] (y ∷ w) = refl
-pointwise_same (x ∷ s) [] = refl
-pointwise_same (x ∷ s) (y ∷ w) = ap (λ (b : Bool). eqb x y && b) (pointwise_same s w)
+pub same_decided : (s w : List ℕ) (r : Bool) → Decides r (s ≡ w) → r ≡ same s w
+same_decided s w r d = both_ways r (same s w) (λ e. rw (d.0 e) (same_refl w)) (λ e. d.1 (same_eq s w e))
 
 -- `has_prefix`
 pub prefix_short : (w s : List ℕ) → length s < length w → false ≡ starts w s
 prefix_short w s h = same_lengths (take (length w) s) w (λ e. omega (arith, length-take (length w) s))
-
-pub prefix_decided : (w s : List ℕ) (r : Bool) → Decides r (take (length w) s ≡ w) → r ≡ starts w s
-prefix_decided w s r d =
-    both_ways r (starts w s) (λ e. rw (d.0 e) (same_refl w)) (λ e. d.1 (same_eq (take (length w) s) w e))
 
 -- `ends_in`
 pub ends_empty : (b : ℕ) (s : List ℕ) → length s < 1 → false ≡ ends_in b s
@@ -62,7 +53,7 @@ module _ (b : ℕ) (s : List ℕ) (h : 1 ≤ length s) where
   ends_not e = sym (ends_last b s h ∙ ne_eqb _ _ e)
 
 -- `part`: cut at the end of s, a place and a length reach as far
-take_cut : (n : ℕ) (s : List ℕ) → take (min n (length s)) s ≡ take n s
+pub take_cut : (n : ℕ) (s : List ℕ) → take (min n (length s)) s ≡ take n s
 take_cut n s =
     by_bool (ltb n (length s))
     (λ h. let e : min n (length s) ≡ n = omega (arith, ltb-true n (length s) h) in rw e)
@@ -71,7 +62,7 @@ take_cut n s =
     let e : min n (length s) ≡ length s = omega arith in
     rw e (take_all (length s) s (omega arith) ∙ sym (take_all n s l)))
 
-drop_cut : (n : ℕ) (s : List ℕ) → drop (min n (length s)) s ≡ drop n s
+pub drop_cut : (n : ℕ) (s : List ℕ) → drop (min n (length s)) s ≡ drop n s
 drop_cut n s =
     by_bool (ltb n (length s))
     (λ h. let e : min n (length s) ≡ n = omega (arith, ltb-true n (length s) h) in rw e)
@@ -92,4 +83,4 @@ pub parts_alike : (v w a b : Lent) (p q : Place) (r : Bool) → PartAt v p a →
     → r ≡ same (bytes_at p v.now) (bytes_at q w.now)
 parts_alike v w a b p q r f g e = e ∙ simp (f.bytes, g.bytes)
 
-pub ruleset laws = (pointwise_same, prefix_short, ends_empty, ends_here, ends_not, part_of, parts_alike)
+pub ruleset laws = (same_lengths, prefix_short, ends_empty, ends_here, ends_not, part_of, parts_alike)

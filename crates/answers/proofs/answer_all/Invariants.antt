@@ -1,7 +1,6 @@
--- Each turn counts one frame at most, in all and of each kind.
-use Rattle.std.proofs.Common.{◌≤◌}
+-- Each turn counts one frame, and it is one that was accepted, refused or asked.
+use Rattle.std.proofs.Common.{◌≡◌, ◌+◌}
 use Rattle.answers.proofs.answer_all.Given as goal
 
 abbrev pub invariant-loop : goal.invariant-loop
-invariant-loop g l =
-    (l.counts.frames ≤ l.counter) × (l.counts.ok ≤ l.counter) × (l.counts.no ≤ l.counter) × (l.counts.asked ≤ l.counter)
+invariant-loop g l = (l.counts.ok + l.counts.no + l.counts.asked ≡ l.counts.frames) × (l.counts.frames ≡ l.counter)

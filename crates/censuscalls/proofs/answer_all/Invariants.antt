@@ -1,6 +1,6 @@
 -- Each turn counts one call.
-use Rattle.std.proofs.Common.{◌≤◌}
+use Rattle.std.proofs.Common.{◌≡◌}
 use Rattle.censuscalls.proofs.answer_all.Given as goal
 
 abbrev pub invariant-loop : goal.invariant-loop
-invariant-loop g l = l.calls ≤ l.counter
+invariant-loop g l = l.calls ≡ l.counter

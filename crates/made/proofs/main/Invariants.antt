@@ -1,6 +1,6 @@
--- No more records are counted than frames, and a turn counts a frame at most.
-use Rattle.std.proofs.Common.{◌≤◌}
+-- No more records are counted than frames, and each turn counts a frame.
+use Rattle.std.proofs.Common.{◌≡◌, ◌≤◌}
 use Rattle.made.proofs.main.Given as goal
 
 abbrev pub invariant-loop : goal.invariant-loop
-invariant-loop l = (l.records ≤ l.frames) × (l.frames ≤ l.counter)
+invariant-loop l = (l.records ≤ l.frames) × (l.frames ≡ l.counter)
