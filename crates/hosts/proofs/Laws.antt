@@ -54,9 +54,17 @@ lower_is b =
     (λ f. let m = leb-false b 90 f in rw (f, le-ltb b 91 (omega arith)))))
     (λ e. let l = leb-false 65 b e in rw (e, lt-ltb b 65 (omega arith)))
 
+-- `==` of two texts
+pointwise_same : (s t : List ℕ) → pointwise nat_eq s t ≡ same s t
+unfolding same
+pointwise_same [] [] = refl
+pointwise_same [] (y ∷ t) = refl
+pointwise_same (x ∷ s) [] = refl
+pointwise_same (x ∷ s) (y ∷ t) = ap (λ (b : Bool). eqb x y && b) (pointwise_same s t)
+
 -- `one_server`
-pub equal_hosts : (s t : List ℕ) (r : Bool) → r ≡ same s t → r ≡ true → true ≡ one_server s t
-equal_hosts s t r e f = let g : s ≡ t = same_eq s t (sym e ∙ f) in sym (rw g (servers_sorted.to_self t))
+pub equal_hosts : (s t : List ℕ) (r : Bool) → r ≡ pointwise nat_eq s t → r ≡ true → true ≡ one_server s t
+equal_hosts s t r e f = let g : s ≡ t = same_eq s t (sym (pointwise_same s t) ∙ sym e ∙ f) in sym (rw g (servers_sorted.to_self t))
 
 -- names that are equal with small letters
 small_letters : (s : List ℕ) → map to_ascii_lowercase s ≡ folded s
@@ -107,13 +115,6 @@ same_before s t u =
     both_ways (same (s ++ u) (t ++ u)) (same s t)
     (λ e. let k = ap length (same_eq (s ++ u) (t ++ u) e) in same_front s t u (omega (arith, k, length-append s u, length-append t u)) e)
     (λ e. rw (same_eq s t e) (same_refl (t ++ u)))
-
-pointwise_same : (s t : List ℕ) → pointwise nat_eq s t ≡ same s t
-unfolding same
-pointwise_same [] [] = refl
-pointwise_same [] (y ∷ t) = refl
-pointwise_same (x ∷ s) [] = refl
-pointwise_same (x ∷ s) (y ∷ t) = ap (λ (b : Bool). eqb x y && b) (pointwise_same s t)
 
 -- `==` of two numbers
 abbrev pub equal_numbers : IpNumber → IpNumber → Bool

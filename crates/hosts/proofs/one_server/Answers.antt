@@ -4,8 +4,8 @@ use Rattle.std.proofs.Common.{rules}
 use Rattle.hosts.proofs.one_server.Goals as goal
 use Rattle.hosts.proofs.one_server.Goals.{in_default-via-in-None-1, in_default-via-in-Some+in-None-1}
 
-pub returns-then-is_word : goal.returns-then-is_word
-returns-then-is_word c = search (rules, laws)
+pub returns-then-eq : goal.returns-then-eq
+returns-then-eq c = search (rules, laws)
 
 pub returns : goal.returns
 returns c = search (rules, laws)
